@@ -110,7 +110,8 @@ static bool serve_some(struct client *client, uint64_t until) {
             client->by.known = true;
             client->by.resp = *at == '*';
         }
-        size_t used = client->by.resp ? serve_command(client, at, left) : serve_line(client, at, left);
+        size_t used =
+            client->by.resp ? serve_command(client, at, left) : serve_line(client, at, left);
         if (used == 0) return false;
         client->used += used;
         if (metrics_clock() > until) break;
@@ -140,8 +141,8 @@ static void add_more(struct client *client) {
     uv_idle_start(&idle, serve_more);
 }
 
-/* Each who sent something has a turn, in order, and all of them share the time: so nobody waits longer
- * than that and one request of each. */
+/* Each who sent something has a turn, in order, and all of them share the time: so nobody waits
+ * longer than that and one request of each. */
 static void serve_more(uv_idle_t *handle) {
     uint64_t count = queued, share = TURN_NANOSECONDS / (count + 1);
     (void)handle;
@@ -186,7 +187,7 @@ static void update(struct client *client) {
     if (client->closing) return;
     bool serves = client->has_more && !is_full(client) && !ending;
     bool reads = client->in.size - client->used <= MOST_COMMAND && !is_full(client)
-        && !client->ended && !client->by.leaves && !ending;
+                 && !client->ended && !client->by.leaves && !ending;
     if (serves) add_more(client);
     if (reads && !client->reads) uv_read_start(&client->at.stream, give_room, was_read);
     if (!reads && client->reads) uv_read_stop(&client->at.stream);
@@ -220,7 +221,8 @@ void clients_begin(uv_loop_t *loop) {
 void clients_end(void) {
     ending = true;
     clients_close_listeners();
-    for (struct client *client = clients_first; client != NULL; client = client->next) update(client);
+    for (struct client *client = clients_first; client != NULL; client = client->next)
+        update(client);
 }
 
 bool clients_quiet(void) {

@@ -93,10 +93,10 @@ static void look_at_all(uv_timer_t *timer) {
     (void)timer;
     for (struct client *client = clients_first, *next; client != NULL; client = next) {
         next = client->next;
-        bool mute = client->write_began != 0
-            && now - client->write_began > options.send_seconds * SECOND;
+        bool mute =
+            client->write_began != 0 && now - client->write_began > options.send_seconds * SECOND;
         bool silent = options.idle_seconds != 0 && client->out.size == 0 && !client->has_more
-            && now - client->active > options.idle_seconds * SECOND;
+                      && now - client->active > options.idle_seconds * SECOND;
         if (mute || silent) client_close(client);
     }
 }

@@ -31,8 +31,8 @@ void clients_open(uv_loop_t *loop, uv_connection_cb accept);
 void clients_close_listeners(void);
 struct client *client_new(uv_stream_t *listener);
 void client_close(struct client *client);
-/* Lets one go for a new one: who has said nothing for a second, else who was silent for ten; whether there
- * was one. */
+/* Lets one go for a new one: who has said nothing for a second, else who was silent for ten;
+ * whether there was one. */
 bool clients_make_room(const struct client *but);
 /* Frees what was closed while it stood in a list. */
 void client_free_closed(struct client *client);

@@ -44,7 +44,8 @@ static void put_error(const struct speaker *by, struct bytes *out, const char *t
     command_error(by, out, text, strlen(text));
 }
 
-static void put_outcome(const struct speaker *by, struct bytes *out, const struct outcome *outcome) {
+static void put_outcome(const struct speaker *by, struct bytes *out,
+    const struct outcome *outcome) {
     if (outcome->refused) {
         command_error(by, out, outcome->text, outcome->size);
     } else if (by->resp) {
@@ -78,12 +79,14 @@ static void do_ping(struct speaker *by, const struct word *words, size_t count, 
     else resp_simple(out, "PONG");
 }
 
-static void do_fcall(struct speaker *by, const struct word *words, size_t count, struct bytes *out) {
+static void do_fcall(struct speaker *by, const struct word *words, size_t count,
+    struct bytes *out) {
     uint64_t keys = 0;
     struct word given[MOST_WORDS];
     if (count < 3 || !word_number(words[2], &keys) || keys > count - 3) {
-        put_error(by, out, "ERR FCALL handler n args..: n of the args are keys, which are no more"
-                           " than the others");
+        put_error(by, out,
+            "ERR FCALL handler n args..: n of the args are keys, which are no more"
+            " than the others");
         return;
     }
     given[0] = words[1];
@@ -100,7 +103,8 @@ static void do_once(struct speaker *by, const struct word *words, size_t count, 
     request(by, words + 3, count - 3, &id, out);
 }
 
-static void do_hello(struct speaker *by, const struct word *words, size_t count, struct bytes *out) {
+static void do_hello(struct speaker *by, const struct word *words, size_t count,
+    struct bytes *out) {
     if (count > 1 && !word_is(words[1], "2")) {
         put_error(by, out, "NOPROTO this is version 2 of the protocol");
         return;
@@ -126,18 +130,21 @@ static void do_auth(struct speaker *by, const struct word *words, size_t count, 
     }
 }
 
-static void do_client(struct speaker *by, const struct word *words, size_t count, struct bytes *out) {
+static void do_client(struct speaker *by, const struct word *words, size_t count,
+    struct bytes *out) {
     if (count > 1 && word_names(words[1], "ID")) resp_integer(out, by->id);
     else if (count > 1 && word_names(words[1], "GETNAME")) bytes_text(out, "$-1\r\n");
     else resp_simple(out, "OK");
 }
 
-static void do_empty(struct speaker *by, const struct word *words, size_t count, struct bytes *out) {
+static void do_empty(struct speaker *by, const struct word *words, size_t count,
+    struct bytes *out) {
     (void)by, (void)words, (void)count;
     resp_array(out, 0);
 }
 
-static void do_select(struct speaker *by, const struct word *words, size_t count, struct bytes *out) {
+static void do_select(struct speaker *by, const struct word *words, size_t count,
+    struct bytes *out) {
     if (count == 2 && word_is(words[1], "0")) resp_simple(out, "OK");
     else put_error(by, out, "ERR there is database 0 alone");
 }
@@ -148,9 +155,11 @@ static void do_quit(struct speaker *by, const struct word *words, size_t count, 
     by->leaves = true;
 }
 
-static void do_multi(struct speaker *by, const struct word *words, size_t count, struct bytes *out) {
+static void do_multi(struct speaker *by, const struct word *words, size_t count,
+    struct bytes *out) {
     (void)words, (void)count;
-    put_error(by, out, "ERR there is no MULTI: a handler is a transaction, write one that does it all");
+    put_error(by, out,
+        "ERR there is no MULTI: a handler is a transaction, write one that does it all");
 }
 
 /* One text as a bulk string. */
@@ -166,7 +175,8 @@ static void do_info(struct speaker *by, const struct word *words, size_t count, 
     put_text(out, metrics_info);
 }
 
-static void do_metrics(struct speaker *by, const struct word *words, size_t count, struct bytes *out) {
+static void do_metrics(struct speaker *by, const struct word *words, size_t count,
+    struct bytes *out) {
     (void)by, (void)words, (void)count;
     put_text(out, metrics_prometheus);
 }
@@ -176,7 +186,8 @@ static void do_slow(struct speaker *by, const struct word *words, size_t count, 
     put_text(out, metrics_slow);
 }
 
-static void do_snapshot(struct speaker *by, const struct word *words, size_t count, struct bytes *out) {
+static void do_snapshot(struct speaker *by, const struct word *words, size_t count,
+    struct bytes *out) {
     (void)words, (void)count;
     if (commits_want_snapshot()) resp_simple(out, "Snapshot begins");
     else put_error(by, out, "ERR a snapshot is under way, or nothing is kept");
@@ -205,7 +216,8 @@ void command_names(void) {
     for (size_t i = 0; i < handlers_count; i++) {
         struct word name = { handlers[i].name, strlen(handlers[i].name) };
         if (command_of(name) == NULL) continue;
-        say("the handler `%s` has a command's name: Redis clients call it by FCALL", handlers[i].name);
+        say("the handler `%s` has a command's name: Redis clients call it by FCALL",
+            handlers[i].name);
     }
 }
 

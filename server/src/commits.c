@@ -8,8 +8,8 @@
 
 #include <inttypes.h>
 
-/* A snapshot is taken (its text is in memory) after a commit, written by another thread, and then named
- * by a next transaction. */
+/* A snapshot is taken (its text is in memory) after a commit, written by another thread, and then
+ * named by a next transaction. */
 enum stage { NONE, WANTED, WRITING, WRITTEN };
 
 static struct {
@@ -72,7 +72,8 @@ static void take_snapshot(void) {
     snap.stage = NONE;
     if (serving.position == snap.named_at) return;
     if (!snapshot_take(&commits.head->handlers, &snap.body)) {
-        say("no snapshot: one of more than 100,000 entries or 4,194,304 bytes can't be opened again;"
+        say("no snapshot: one of more than 100,000 entries or 4,194,304 bytes can't be opened "
+            "again;"
             " the log is kept");
         return;
     }
@@ -116,8 +117,8 @@ static void commit(void) {
 void commits_turn(void) {
     if (serving.pending == NULL) return;
     commit();
-    bool due = options.snapshot_every > 0
-        && serving.position - snap.tried_at >= options.snapshot_every;
+    bool due =
+        options.snapshot_every > 0 && serving.position - snap.tried_at >= options.snapshot_every;
     if (due) commits_want_snapshot();
     if (snap.stage == WANTED) take_snapshot();
 }

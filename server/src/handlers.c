@@ -56,7 +56,8 @@ static void read_head(const char *line) {
 
 /* Operations alone have a parenthesis right behind a word. */
 static bool line_changes(const char *line) {
-    static const char *const changes[] = { "put(", "swap(", "del(", "bump(", "add(", "mark(", "drop(" };
+    static const char *const changes[] = { "put(", "swap(", "del(", "bump(", "add(", "mark(",
+        "drop(" };
     for (size_t i = 0; i < sizeof changes / sizeof *changes; i++) {
         if (strstr(line, changes[i]) != NULL) return true;
     }

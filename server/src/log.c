@@ -100,8 +100,8 @@ void log_create(const struct head *head, const struct named *named) {
     if (fault != NULL) give_up(STATUS_LOG_FAULT, "%s", fault);
 }
 
-/* What a killed process left may have been read, and not be on the disk: so all is synced before anybody
- * is answered, and before a file is removed. */
+/* What a killed process left may have been read, and not be on the disk: so all is synced before
+ * anybody is answered, and before a file is removed. */
 static void sync_all(void) {
     if (sqlite3_wal_checkpoint_v2(db, NULL, SQLITE_CHECKPOINT_TRUNCATE, NULL, NULL) != SQLITE_OK) {
         give_up(STATUS_LOG_FAULT, "the log can't be synced: %s", sqlite3_errmsg(db));
@@ -120,7 +120,9 @@ void log_begin(const struct stand *from) {
                        " (SELECT min(position) FROM log) + ?2)");
 }
 
-struct stand log_stand(void) { return stand; }
+struct stand log_stand(void) {
+    return stand;
+}
 
 /* Runs a prepared statement that gives no rows. */
 static bool run(sqlite3_stmt *statement) {

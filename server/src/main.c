@@ -54,8 +54,9 @@ static void open_tables(void) {
     }
     serve_log(options.data, &head, options.has_until ? options.until : INT64_MAX);
     handlers_read(&head.handlers);
-    bool same = options.handlers == NULL || (given.size == head.handlers.size
-        && memcmp(given.at, head.handlers.at, given.size) == 0);
+    bool same = options.handlers == NULL
+                || (given.size == head.handlers.size
+                    && memcmp(given.at, head.handlers.at, given.size) == 0);
     if (!same) give_up(STATUS_REFUSED, "the data is of other handlers");
     options.once_window = head.once_window;
 }

@@ -57,7 +57,8 @@ static void add_slow(uint64_t nanoseconds, const struct word *words, size_t coun
     char *row = slow[slow_count++ % SLOW_ROWS];
     int at = snprintf(row, SLOW_ROOM, "%" PRIu64 " us:", nanoseconds / 1000);
     for (size_t i = 0; i < count && at < SLOW_ROOM - 70; i++) {
-        at += snprintf(row + at, (size_t)(SLOW_ROOM - at), " %.*s", (int)words[i].size, words[i].at);
+        at +=
+            snprintf(row + at, (size_t)(SLOW_ROOM - at), " %.*s", (int)words[i].size, words[i].at);
     }
 }
 
@@ -100,15 +101,17 @@ void metrics_snapshot(uint64_t position) { snapshot = position; }
 void metrics_info(struct bytes *out) {
     bytes_format(out, "# Server\r\nforesight_version:%u.%u\r\n", foresight_version() / 10000,
         foresight_version() / 100 % 100);
-    bytes_format(out, "connected_clients:%" PRIu64 "\r\nhandlers:%zu\r\n", connected, handlers_count);
-    bytes_format(out, "# Requests\r\nserved:%" PRIu64 "\r\nagain:%" PRIu64 "\r\n", requests.count, again);
+    bytes_format(out, "connected_clients:%" PRIu64 "\r\nhandlers:%zu\r\n", connected,
+        handlers_count);
+    bytes_format(out, "# Requests\r\nserved:%" PRIu64 "\r\nagain:%" PRIu64 "\r\n", requests.count,
+        again);
     for (size_t i = 0; i < RULES_COUNT; i++) {
         bytes_format(out, "refused_%s:%" PRIu64 "\r\n", RULES[i].name, refused[i]);
     }
     bytes_format(out, "# Log\r\nposition:%" PRIu64 "\r\nwaiting:%zu\r\nsnapshot:%" PRIu64 "\r\n",
         serving.position, serving.pending == NULL ? 0 : serving.pending->count, snapshot);
-    bytes_format(out, "commits:%" PRIu64 "\r\ncommit_p50_us:%.0f\r\ncommit_p99_us:%.0f\r\n", commits,
-        1e6 * time_at(&committing, 0.5), 1e6 * time_at(&committing, 0.99));
+    bytes_format(out, "commits:%" PRIu64 "\r\ncommit_p50_us:%.0f\r\ncommit_p99_us:%.0f\r\n",
+        commits, 1e6 * time_at(&committing, 0.5), 1e6 * time_at(&committing, 0.99));
     bytes_format(out, "once_clients:%zu\r\nonce_forgotten:%" PRIu64 "\r\n", once_clients(),
         once_forgotten());
 }
@@ -126,7 +129,8 @@ static void put_summary(struct bytes *out, const char *name, const struct times 
 }
 
 static void put_one(struct bytes *out, const char *name, const char *type, uint64_t number) {
-    bytes_format(out, "# TYPE foresight_%s %s\nforesight_%s %" PRIu64 "\n", name, type, name, number);
+    bytes_format(out, "# TYPE foresight_%s %s\nforesight_%s %" PRIu64 "\n", name, type, name,
+        number);
 }
 
 void metrics_prometheus(struct bytes *out) {

@@ -91,7 +91,8 @@ int offline_change(void) {
     serve_log(options.data, &head, INT64_MAX);
     log_close();
     if (serving.position == 0) give_up(STATUS_REFUSED, "nothing was served: make new data");
-    if (!snapshot_take(&given, &body)) give_up(STATUS_REFUSED, "too many entries, or bytes of tables");
+    if (!snapshot_take(&given, &body))
+        give_up(STATUS_REFUSED, "too many entries, or bytes of tables");
     tables_dump(&dump);
     tables_load(&given, &dump, head.most_names);
     head.handlers = given;

@@ -24,7 +24,8 @@ static size_t read_number(const char *at, size_t size, char sign, uint64_t *numb
     return (size_t)(feed - at) + 1;
 }
 
-size_t resp_read(const char *at, size_t size, struct word *words, size_t *count, const char **fault) {
+size_t resp_read(const char *at, size_t size, struct word *words, size_t *count,
+    const char **fault) {
     uint64_t want = 0, length = 0;
     size_t used = read_number(at, size, '*', &want, fault);
     *count = 0;

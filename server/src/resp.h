@@ -8,8 +8,10 @@
 enum { MOST_WORDS = 64, MOST_COMMAND = 131072 };
 
 /* Reads a command, an array of bulk strings: how many bytes it has, 0 if it isn't whole. `count` is
- * how many words it has, of which the first MOST_WORDS are there. With a fault the connection ends. */
-size_t resp_read(const char *at, size_t size, struct word *words, size_t *count, const char **fault);
+ * how many words it has, of which the first MOST_WORDS are there. With a fault the connection ends.
+ */
+size_t resp_read(const char *at, size_t size, struct word *words, size_t *count,
+    const char **fault);
 
 void resp_simple(struct bytes *out, const char *text);
 void resp_error(struct bytes *out, const char *text, size_t size);

@@ -30,8 +30,9 @@ static struct handler *checked(const struct word *words, size_t count, struct ou
     }
     for (size_t i = 1; i < count; i++) {
         if (word_is_value(words[i]) || word_is(words[i], NOW)) continue;
-        refuse(out, "ERR refused Q3: argument %zu of `%s` is no value: nil, a number of 64 bits, or a"
-                    " symbol (a letter, then letters, digits, _ . - @ :, at most 64 bytes)",
+        refuse(out,
+            "ERR refused Q3: argument %zu of `%s` is no value: nil, a number of 64 bits, or a"
+            " symbol (a letter, then letters, digits, _ . - @ :, at most 64 bytes)",
             i, handler->name);
         return NULL;
     }
@@ -93,7 +94,8 @@ static bool answered_before(const struct once_id *id, uint64_t asked, struct out
     case ONCE_AGAIN: break;
     case ONCE_OTHER: refuse(out, "ERR the number was used for another request"); break;
     case ONCE_TOO_OLD:
-        refuse(out, "TOO OLD: the last %" PRIu64 " numbers of a client are known", options.once_window);
+        refuse(out, "TOO OLD: the last %" PRIu64 " numbers of a client are known",
+            options.once_window);
         break;
     }
     return true;
@@ -132,10 +134,10 @@ void serve(const struct word *words, size_t count, const struct once_id *id, str
 /* ---- The log again. */
 
 struct again {
-    struct stand stand;   /* what was read and checked so far */
-    struct stand from;    /* the snapshot's */
+    struct stand stand; /* what was read and checked so far */
+    struct stand from;  /* the snapshot's */
     uint64_t until, served;
-    bool known;           /* whether the checksum before the next row is known */
+    bool known; /* whether the checksum before the next row is known */
 };
 
 static void check_row(const struct row *row, const uint8_t *line, const uint8_t *client,
@@ -146,7 +148,8 @@ static void check_row(const struct row *row, const uint8_t *line, const uint8_t 
     if (again->known) {
         chain_row(again->stand.chain, row, line, client);
         if (memcmp(again->stand.chain, chain, CHAIN_SIZE) != 0) {
-            give_up(STATUS_DIFFERS, "position %" PRIu64 ": the row isn't what was written", row->position);
+            give_up(STATUS_DIFFERS, "position %" PRIu64 ": the row isn't what was written",
+                row->position);
         }
     }
     memcpy(again->stand.chain, chain, CHAIN_SIZE);
@@ -154,7 +157,8 @@ static void check_row(const struct row *row, const uint8_t *line, const uint8_t 
     again->known = true;
     if (row->position == again->from.position
         && memcmp(chain, again->from.chain, CHAIN_SIZE) != 0) {
-        give_up(STATUS_DIFFERS, "position %" PRIu64 ": the snapshot is of another log", row->position);
+        give_up(STATUS_DIFFERS, "position %" PRIu64 ": the snapshot is of another log",
+            row->position);
     }
 }
 

@@ -63,8 +63,8 @@ static void read_head(char **at, char *end, const char *path, const struct named
     char *first = next_line(at, end), *position = next_line(at, end);
     char *chain = next_line(at, end), *time = next_line(at, end);
     bool fine = time != NULL && strcmp(first, FIRST) == 0
-        && strtoull(position + strlen("position "), NULL, 10) == named->stand.position
-        && strcmp(chain + strlen("chain "), hex) == 0 && strncmp(time, "now ", 4) == 0;
+                && strtoull(position + strlen("position "), NULL, 10) == named->stand.position
+                && strcmp(chain + strlen("chain "), hex) == 0 && strncmp(time, "now ", 4) == 0;
     if (!fine) give_up(STATUS_DIFFERS, "%s isn't the snapshot of its position", path);
     *now = strtoull(time + 4, NULL, 10);
 }

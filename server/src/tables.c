@@ -27,7 +27,8 @@ void refuse(struct outcome *out, const char *format, ...) {
 }
 
 /* Opens a session in place of the one that there is; what is wrong is in `why`. */
-static int open_over(const struct bytes *text, uint32_t most_names, char why[FORESIGHT_MESSAGE_ROOM]) {
+static int open_over(const struct bytes *text, uint32_t most_names,
+    char why[FORESIGHT_MESSAGE_ROOM]) {
     struct foresight_answer answer = { 0, 0, 0 };
     uint64_t seed = 0;
     if (getrandom(&seed, sizeof seed, 0) != sizeof seed) give_up(STATUS_NO_FILE, "no seed");
@@ -61,9 +62,11 @@ void tables_dump(struct bytes *out) {
     while (status == FORESIGHT_SESSION_NO_ROOM) {
         size_t room = answer.needed;
         memset(bytes_reserve(out, room), 0, room);
-        status = foresight_session_dump(&session, out->at + out->size, room, why, sizeof why, &answer);
+        status =
+            foresight_session_dump(&session, out->at + out->size, room, why, sizeof why, &answer);
     }
-    if (status != FORESIGHT_SESSION_FINE) give_up(STATUS_MEMORY, "no dump: %.*s", (int)answer.told, why);
+    if (status != FORESIGHT_SESSION_FINE)
+        give_up(STATUS_MEMORY, "no dump: %.*s", (int)answer.told, why);
     out->size += answer.written;
 }
 
@@ -80,15 +83,16 @@ bool tables_can_load(const struct bytes *handlers, const struct bytes *dump) {
     return lines <= MOST_ENTRIES + 1 && own_part(handlers) + dump->size + 8 <= MOST_TEXT;
 }
 
-static void text_to_load(const struct bytes *handlers, const struct bytes *dump, struct bytes *whole) {
+static void text_to_load(const struct bytes *handlers, const struct bytes *dump,
+    struct bytes *whole) {
     bytes_put(whole, handlers->at, own_part(handlers));
     bytes_text(whole, "\n");
     bytes_put(whole, dump->at, dump->size);
     bytes_text(whole, "%%\n");
 }
 
-/* Opens the session again over its own tables: names that these don't have are given back. Replies and
- * tables don't depend on it. It takes as long as a start. */
+/* Opens the session again over its own tables: names that these don't have are given back. Replies
+ * and tables don't depend on it. It takes as long as a start. */
 static bool renew(uint32_t most_names) {
     struct bytes dump = { NULL, 0, 0 }, whole = { NULL, 0, 0 };
     char why[FORESIGHT_MESSAGE_ROOM];

@@ -17,8 +17,8 @@ struct outcome {
 
 void refuse(struct outcome *out, const char *format, ...) __attribute__((format(printf, 2, 3)));
 
-/* The log is served again with as many names as there are: how often names were given back, and when, is
- * not in it. */
+/* The log is served again with as many names as there are: how often names were given back, and
+ * when, is not in it. */
 enum { NAMES_WITHOUT_BOUND = 2000000000 };
 
 /* Opens it over a session file without requests; a line `%%` is added if there is none. */

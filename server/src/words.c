@@ -32,7 +32,7 @@ static bool is_number(struct word word) {
     const char *digits = word.at + minus;
     size_t size = word.size - minus;
     return are_digits(digits, size)
-        && within(digits, size, minus ? "9223372036854775808" : "9223372036854775807");
+           && within(digits, size, minus ? "9223372036854775808" : "9223372036854775807");
 }
 
 static bool is_symbol(struct word word) {

@@ -1,14 +1,14 @@
 /* A disk that loses what wasn't synced, for tests: linked into a server of their own.
  *
- * A layer below SQLite keeps writes in memory until the file is synced. At random some of them, or the
- * first sectors of one, reach the file before, in any order. So what a kill leaves is what a power cut
- * may leave. The same holds for files of snapshots, and a rename is done at random at once or when its
- * folder is synced. Syncs themselves are not passed on, but take a random time.
+ * A layer below SQLite keeps writes in memory until the file is synced. At random some of them, or
+ * the first sectors of one, reach the file before, in any order. So what a kill leaves is what a
+ * power cut may leave. The same holds for files of snapshots, and a rename is done at random at
+ * once or when its folder is synced. Syncs themselves are not passed on, but take a random time.
  *
- * CUT_FAULT=sync:N fails the Nth sync of a log, write:N the Nth write as if the disk were full, slow:MS
- * makes each sync take so long, file:N fails the Nth write of a snapshot, die:N ends the process before or
- * after one of the steps of a snapshot, the Nth of these moments. Whoever writes or syncs the log after a
- * failed sync is told of. */
+ * CUT_FAULT=sync:N fails the Nth sync of a log, write:N the Nth write as if the disk were full,
+ * slow:MS makes each sync take so long, file:N fails the Nth write of a snapshot, die:N ends the
+ * process before or after one of the steps of a snapshot, the Nth of these moments. Whoever writes
+ * or syncs the log after a failed sync is told of. */
 #define _GNU_SOURCE
 #include <errno.h>
 #include <fcntl.h>
@@ -96,10 +96,12 @@ static int file_read(sqlite3_file *base, void *to, int size, sqlite3_int64 at) {
     for (size_t i = 0; i < file->count; i++) {
         struct piece *piece = &file->pieces[i];
         sqlite3_int64 from = piece->at > at ? piece->at : at;
-        sqlite3_int64 until = piece->at + piece->size < at + size ? piece->at + piece->size : at + size;
+        sqlite3_int64 until =
+            piece->at + piece->size < at + size ? piece->at + piece->size : at + size;
         if (piece->at + piece->size > end) end = piece->at + piece->size;
         if (from < until) {
-            memcpy((char *)to + (from - at), piece->bytes + (from - piece->at), (size_t)(until - from));
+            memcpy((char *)to + (from - at), piece->bytes + (from - piece->at),
+                (size_t)(until - from));
         }
     }
     return status == SQLITE_IOERR_SHORT_READ && end >= at + size ? SQLITE_OK : status;
@@ -118,7 +120,9 @@ static int file_write(sqlite3_file *base, const void *from, int size, sqlite3_in
     *piece = (struct piece){ at, size, malloc((size_t)size) };
     memcpy(piece->bytes, from, (size_t)size);
     unsigned dice = chance(4);
-    int early = dice == 0 ? size : dice == 1 ? (int)(chance((unsigned)size / SECTOR + 1) * SECTOR) : 0;
+    int early = dice == 0   ? size
+                : dice == 1 ? (int)(chance((unsigned)size / SECTOR + 1) * SECTOR)
+                            : 0;
     if (early > 0) return file->real->pMethods->xWrite(file->real, from, early, at);
     return SQLITE_OK;
 }
@@ -158,7 +162,9 @@ static int file_size(sqlite3_file *base, sqlite3_int64 *size) {
 
 #define REAL(base) ((struct file *)(base))->real
 static int file_lock(sqlite3_file *f, int kind) { return REAL(f)->pMethods->xLock(REAL(f), kind); }
-static int file_unlock(sqlite3_file *f, int kind) { return REAL(f)->pMethods->xUnlock(REAL(f), kind); }
+static int file_unlock(sqlite3_file *f, int kind) {
+    return REAL(f)->pMethods->xUnlock(REAL(f), kind);
+}
 static int file_reserved(sqlite3_file *f, int *out) {
     return REAL(f)->pMethods->xCheckReservedLock(REAL(f), out);
 }
@@ -177,11 +183,13 @@ static int file_shm_lock(sqlite3_file *f, int at, int count, int flags) {
     return REAL(f)->pMethods->xShmLock(REAL(f), at, count, flags);
 }
 static void file_barrier(sqlite3_file *f) { REAL(f)->pMethods->xShmBarrier(REAL(f)); }
-static int file_unmap(sqlite3_file *f, int drop) { return REAL(f)->pMethods->xShmUnmap(REAL(f), drop); }
+static int file_unmap(sqlite3_file *f, int drop) {
+    return REAL(f)->pMethods->xShmUnmap(REAL(f), drop);
+}
 
 static const sqlite3_io_methods METHODS = { 2, file_close, file_read, file_write, file_truncate,
-    file_sync, file_size, file_lock, file_unlock, file_reserved, file_control, file_sector, file_traits,
-    file_map, file_shm_lock, file_barrier, file_unmap, NULL, NULL };
+    file_sync, file_size, file_lock, file_unlock, file_reserved, file_control, file_sector,
+    file_traits, file_map, file_shm_lock, file_barrier, file_unmap, NULL, NULL };
 
 static int open_file(sqlite3_vfs *vfs, const char *name, sqlite3_file *base, int flags, int *out) {
     struct file *file = (struct file *)base;
