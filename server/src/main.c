@@ -27,6 +27,8 @@ static struct head head;
 static bool ending, skips_snapshot, snapshot_asked;
 static uint64_t end_began;
 static uv_timer_t end_tick;
+static uv_async_t woken;
+static volatile sig_atomic_t terminated;
 
 /* ---- The beginning. */
 
@@ -94,16 +96,18 @@ static void on_alarm(int number) {
     _exit(STATUS_LATE);
 }
 
-static void on_signal(uv_signal_t *signal, int number) {
-    (void)signal;
+static void on_terminate(int number) {
     (void)number;
-    if (ending) {
-        skips_snapshot = true;
-        return;
-    }
+    if (terminated++ == 0) alarm(END_SECONDS);
+    uv_async_send(&woken);
+}
+
+static void on_woken(uv_async_t *async) {
+    (void)async;
+    skips_snapshot = terminated > 1;
+    if (ending) return;
     ending = true;
     end_began = metrics_clock();
-    alarm(END_SECONDS);
     say("ends");
     clients_end();
     commits_end();
@@ -129,15 +133,14 @@ static void take_descriptors(void) {
 }
 
 static void watch(uv_loop_t *loop) {
-    static uv_signal_t terminate, interrupt;
+    struct sigaction terminates = { .sa_handler = on_terminate, .sa_flags = SA_RESTART };
     static uv_prepare_t turn;
     signal(SIGPIPE, SIG_IGN);
     signal(SIGHUP, SIG_IGN);
     signal(SIGALRM, on_alarm);
-    uv_signal_init(loop, &terminate);
-    uv_signal_start(&terminate, on_signal, SIGTERM);
-    uv_signal_init(loop, &interrupt);
-    uv_signal_start(&interrupt, on_signal, SIGINT);
+    uv_async_init(loop, &woken, on_woken);
+    sigaction(SIGTERM, &terminates, NULL);
+    sigaction(SIGINT, &terminates, NULL);
     uv_prepare_init(loop, &turn);
     uv_prepare_start(&turn, on_turn);
     uv_timer_init(loop, &end_tick);

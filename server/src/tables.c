@@ -24,6 +24,10 @@ void refuse(struct outcome *out, const char *format, ...) {
     va_end(given);
     out->size = (size_t)size < sizeof out->text ? (size_t)size : sizeof out->text - 1;
     out->refused = true;
+    /* Some of it may be a client's, and go to a terminal. */
+    for (size_t i = 0; i < out->size; i++) {
+        if (out->text[i] < ' ' || out->text[i] > '~') out->text[i] = '?';
+    }
 }
 
 /* Opens a session in place of the one that there is; what is wrong is in `why`. */

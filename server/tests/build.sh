@@ -1,6 +1,6 @@
 #!/usr/bin/env bash
-# Builds a server over the lossy disk of cut.c: server/tests/build.sh LIBRARY OUT [EDIT], at the top of
-# the repository. EDIT is one of server/tests/planted.
+# Builds a server over the lossy disk of cut.c, at the top of the repository:
+# server/tests/build.sh LIBRARY OUT [EDIT]. EDIT is one of server/tests/planted.
 set -euo pipefail
 cd "$(dirname "$0")/../.."
 work=$(mktemp -d)

@@ -1,6 +1,9 @@
 #!/usr/bin/env python3
-"""What clients meet: clients.py SERVER LOSSY_SERVER. Each `test_` below is one case; LOSSY_SERVER is one
-over the disk of cut.c, whose syncs can be made slow or fail."""
+"""What clients meet: clients.py SERVER LOSSY_SERVER [test_NAME..]
+
+Each `test_` below is one case. LOSSY_SERVER is one over the disk of cut.c, whose syncs can be made
+slow or fail.
+"""
 import os
 import shutil
 import socket
@@ -26,8 +29,8 @@ def lines(server, text, count):
 def test_lines(folder):
     """Lines: replies, refusals, comments, PING, a retry, a line too long, bytes that are no text."""
     server = Server(PROGRAM, folder).start()
-    asked = "PING\ntake a 1\n\n# only a comment\ntake a 1 # two\nnone 1\ntake a\ntake a 'b\n@x:1 take a 1\n" \
-        "@x:1 take a 1\n@x:1 take a 2\n@x take a 1\nboth a\n"
+    asked = "PING\ntake a 1\n\n# comment\ntake a 1 # two\nnone 1\ntake a\ntake a 'b\n" \
+        "@x:1 take a 1\n@x:1 take a 1\n@x:1 take a 2\n@x take a 1\nboth a\n"
     got = lines(server, asked, 11)
     assert got[:3] == ["PONG", "1", "2"], got
     assert [g[:13] for g in got[3:6]] == [f"! refused Q{i}:" for i in (1, 2, 3)], got
@@ -35,9 +38,10 @@ def test_lines(folder):
     assert got[9:] == ["! @client:number handler args..", "nil 3 x nil"], got
     assert lines(server, "x" * 200000 + "\ntake a 1\n", 2) == ["! a line too long", "4"]
     with server.connect() as made:
-        made.sendall(b"\xff\x00 1\ntake a \xc3\xa4\ntake a 1\n")
+        made.sendall(b"\xff\x00\x1b 1\ntake a \xc3\xa4\ntake a 1\n")
         read = made.makefile("rb")
-        assert [read.readline()[:1] for _ in range(3)] == [b"!", b"!", b"5"]
+        got = [read.readline() for _ in range(3)]
+        assert [line[:1] for line in got] == [b"!", b"!", b"5"] and b"\x1b" not in got[0], got
         read.close()
     assert server.stop() == 0
 
@@ -49,13 +53,16 @@ def test_resp(folder):
     assert client("PING") == "PONG" and client("ping", "x") == "x"
     assert client("FCALL", "take", 1, "a", 5) == 5 and client("take", "a", -7) == -2
     assert client("both", "a") == ["nil", -2, "x", "nil"] and client("sum", "no") == "nil"
-    for word in ("a b", "a#", "", "a\nstore a 9", "'a", "9223372036854775808", "+1", "a\0", "-", "x" * 65):
+    for word in ("a b", "a#", "", "a\nstore a 9", "'a", "9223372036854775808", "+1", "a\0", "-",
+                 "x" * 65):
         assert client("store", "a", word).startswith("-ERR refused Q3"), word
         assert client("FCALL", "store", 0, word, 1).startswith("-ERR refused Q3"), word
-    for word in ("9223372036854775807", "-9223372036854775808", "007", "a@b.c:d-e_f", "x" * 64, "nil"):
+    for word in ("9223372036854775807", "-9223372036854775808", "007", "a@b.c:d-e_f", "x" * 64,
+                 "nil"):
         assert str(client("store", "b", word)).lstrip("0") == word.lstrip("0"), word
     assert client("taken", "a") == -2
-    assert client("FCALL", "take", 3, "a", 5)[:4] == "-ERR" and client("take", *range(100))[:4] == "-ERR"
+    assert client("FCALL", "take", 3, "a", 5)[:4] == "-ERR"
+    assert client("take", *range(100))[:4] == "-ERR"
     assert client("HELLO", 3).startswith("-NOPROTO") and client("HELLO", 2)[3] == 2
     assert client("MULTI").startswith("-ERR there is no MULTI") and client("SELECT", 0) == "OK"
     assert client("SELECT", 1)[:4] == "-ERR" and client("COMMAND", "DOCS") == []
@@ -67,7 +74,8 @@ def test_resp(folder):
     client.socket.sendall(command("take", "many", 1) * 1000)
     assert [client.answer() for _ in range(1000)] == list(range(1, 1001))
     assert client("QUIT") == "OK" and client.answer() is None
-    for wrong in (b"*x\r\n", b"*1\r\n:1\r\n", b"*1\r\n$99999999\r\n", b"*99999\r\n", b"*" + b"1" * 40):
+    for wrong in (b"*x\r\n", b"*1\r\n:1\r\n", b"*1\r\n$99999999\r\n", b"*99999\r\n",
+                  b"*" + b"1" * 40):
         client = Client(server)
         client.socket.sendall(wrong)
         assert client.answer().startswith("-ERR Protocol error"), wrong
@@ -81,7 +89,7 @@ def test_redis_programs(folder):
     cli = ["redis-cli", "-s", server.path]
     said = subprocess.run([*cli, "FCALL", "take", "1", "a", "3"], capture_output=True, check=True)
     assert said.stdout == b"3\n", said
-    said = subprocess.run([*cli], input=b"take a 4\nboth a\nQUIT\n", capture_output=True, check=True)
+    said = subprocess.run(cli, input=b"take a 4\nboth a\nQUIT\n", capture_output=True, check=True)
     assert said.stdout.startswith(b"7\n\n7\nx\n"), said
     bench = ["redis-benchmark", "-s", server.path, "-n", "2000", "-c", "20", "-q"]
     subprocess.run([*bench, "-t", "ping_mbulk"], capture_output=True, check=True, timeout=60)
@@ -95,7 +103,7 @@ def test_redis_programs(folder):
 
 
 def test_held_commit(folder):
-    """While a commit is held, no answer that may depend on it goes out; and a retry waits for it."""
+    """While a commit is held, no answer that may depend on it goes out; a retry waits for it."""
     server = Server(LOSSY, folder, env={"CUT_FAULT": "slow:500"}).start()
     one, two, three = Client(server), Client(server), Client(server)
     began = time.monotonic()
@@ -117,10 +125,11 @@ def test_held_commit(folder):
 
 
 def test_faults(folder):
-    """A sync that fails, a disk that is full: UNKNOWN, a status of its own, nothing tried again; the next
-    start has all that was answered, and a retry isn't done twice."""
+    """A sync that fails, a disk that is full: UNKNOWN, a status of its own, nothing tried again;
+    the next start has all that was answered, and a retry isn't done twice."""
     told = []
-    for fault in ("sync:30", "write:40", *(f"sync:{n}" for n in range(20, 26)), "write:61", "write:62"):
+    for fault in ("sync:30", "write:40", *(f"sync:{n}" for n in range(20, 26)), "write:61",
+                  "write:62"):
         shutil.rmtree(folder)
         os.mkdir(folder)
         server = Server(LOSSY, folder, "--checkpoint", "12").start(env={"CUT_FAULT": fault})
@@ -146,8 +155,8 @@ def test_faults(folder):
 
 def test_once(folder):
     """Windows, forgotten clients, and both after a start, from the log and from a snapshot."""
-    server = Server(PROGRAM, folder, "--once-window", "4", "--once-clients", "2", "--snapshot-every", "0")
-    server.start()
+    server = Server(PROGRAM, folder, "--once-window", "4", "--once-clients", "2",
+                    "--snapshot-every", "0").start()
     client = Client(server)
     for number in range(1, 9):
         assert client("ONCE", "c", number, "take", "a", 1) == number
@@ -174,8 +183,8 @@ def test_now(folder):
         last = now
     server.kill()
     assert Client(server.start())("taken", "t") == last
-    assert server.stop() == 0
-    assert f"store t {last}\n".encode() in server.run("--print-log")[1] or os.path.exists(server.data)
+    server.kill()
+    assert f"store t {last}\n".encode() in server.run("--print-log")[1]
 
 
 def test_password(folder):
@@ -190,7 +199,8 @@ def test_password(folder):
         time.sleep(0.01)
     port = int(server.told().rsplit("port ", 1)[1].split()[0])
     client = Client(socket.create_connection(("127.0.0.1", port)))
-    assert client("take", "a", 1).startswith("-NOAUTH") and client("AUTH", "x").startswith("-WRONGPASS")
+    assert client("take", "a", 1).startswith("-NOAUTH")
+    assert client("AUTH", "x").startswith("-WRONGPASS")
     assert client("PING").startswith("-NOAUTH") and client("AUTH", "secret word") == "OK"
     assert client("take", "a", 1) == 1
     assert lines(server, "take a 1\n", 1)[0].startswith("! NOAUTH")
@@ -198,10 +208,11 @@ def test_password(folder):
 
 
 def test_bounds(folder):
-    """Connections, silence, a client that doesn't read, names, a queue that is full, names of commands."""
+    """Connections, silence, a client that doesn't read, names, a full queue, names of commands."""
     handlers = "map m; handler info(k) { reply k; } handler store(k, v) { put(m, k, v); reply v; }"
-    server = Server(LOSSY, folder, "--connections", "3", "--idle", "1", "--send", "1", "--queue", "5",
-                    "--most-names", "12", env={"CUT_FAULT": "slow:200"}, handlers=handlers).start()
+    server = Server(LOSSY, folder, "--connections", "3", "--idle", "1", "--send", "1", "--queue",
+                    "5", "--most-names", "12", env={"CUT_FAULT": "slow:200"}, handlers=handlers)
+    server.start()
     time.sleep(0.3)  # so that the connection that start tried is gone
     assert "`info` has a command's name" in server.told()
     held = [Client(server) for _ in range(3)]
@@ -217,22 +228,25 @@ def test_bounds(folder):
         while True:
             deaf.socket.sendall(command("INFO") * 100)
     except OSError as ended:
-        assert not isinstance(ended, TimeoutError), "a client that doesn't read keeps its connection"
+        assert not isinstance(ended, TimeoutError), "it doesn't read, and keeps its connection"
     client = Client(server)
     client.socket.sendall(command("store", 1, 1) * 40)
     got = [client.answer() for _ in range(40)]
     assert 1 in got and any(str(g).startswith("-BUSY") for g in got), got
     got = [client("store", f"word{i}", i) for i in range(12)]
-    assert got[0] == 0 and got[-1].startswith("-ERR too many names") and client("store", 1, 2) == 2, got
+    assert got[0] == 0 and got[-1].startswith("-ERR too many names"), got
+    assert client("store", 1, 2) == 2
     assert server.stop() == 0
 
 
 def test_names(folder):
-    """Names of words that no table has any more are given back, also at a start; held ones never are."""
-    handlers = "map m; handler hold(k) { put(m, k, 1); reply k; } handler free(k) { del(m, k); reply k; }"
-    server = Server(PROGRAM, folder, "--most-names", "40", "--snapshot-every", "0", handlers=handlers)
+    """Names of words that no table has any more are given back; held ones never are."""
+    handlers = "map m; handler hold(k) { put(m, k, 1); reply k; }" \
+        " handler free(k) { del(m, k); reply k; }"
+    server = Server(PROGRAM, folder, "--most-names", "40", "--snapshot-every", "0",
+                    handlers=handlers)
     client = Client(server.start())
-    for word in range(400):
+    for word in range(120):
         assert client("hold", f"w{word}") == f"w{word}" == client("free", f"w{word}")
     server.kill()
     client = Client(server.start())
@@ -282,8 +296,8 @@ def test_fair(folder):
 
 
 def test_snapshot_steps(folder):
-    """Killed before and after each step of a snapshot: a start has all that was answered, and one snapshot
-    at most. A snapshot that can't be written stops nobody."""
+    """Killed before and after each step of a snapshot: a start has all that was answered, and one
+    snapshot at most. A snapshot that can't be written stops nobody."""
     died = 0
     for moment in range(1, 31):
         shutil.rmtree(folder)
@@ -336,7 +350,7 @@ def snapshots_until(server, number, told="snapshot of position"):
 
 
 def test_backup(folder):
-    """A copy while it runs, a start of it at an earlier position; a log that isn't a copy isn't cut."""
+    """A copy while it runs, a start of it at an earlier position; no other log is cut."""
     server = Server(PROGRAM, folder, "--keep-log").start()
     client = Client(server)
     for number in range(1, 21):
@@ -361,8 +375,9 @@ def test_change(folder):
     assert [client("ONCE", "c", n, "take", "a", 1) for n in (1, 2)] == [1, 2]
     assert server.stop() == 0
     for handlers, status, said in (("map sums; handler h(k) { reply k; }", 1, "refused B1"),
-                                   ("map none; " + HANDLERS + "handler twice(k) { let s = get(kept, k);"
-                                    " s = s * 2; reply s; }", 0, "position 2")):
+                                   ("map none; " + HANDLERS + "handler twice(k) {"
+                                    " let s = get(kept, k); s = s * 2; reply s; }", 0,
+                                    "position 2")):
         with open(server.file, "w", encoding="utf-8") as out:
             out.write(handlers)
         got, _, why = server.run("--change", f"{folder}/changed")

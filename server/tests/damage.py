@@ -1,8 +1,10 @@
 #!/usr/bin/env python3
-"""Damaged data: damage.py SERVER [STEP]. Data is left once by SIGKILL (its log is in the -wal file) and once
-in order (all is in the database). Each byte of the last pages of each file, or each STEPth, is turned over;
-and the file is cut there. A start over it has to have exactly what the first N requests left, with a
-position N that it tells and that ended a commit, or to refuse the data.
+"""Damaged data: damage.py SERVER [STEP]
+
+Data is left by SIGKILL (its log is in the -wal file), once with a snapshot, and in order (all is
+in the database). Each byte of the last pages of each file, or each STEPth, is turned over, or a bit
+of it, or the file is cut there. A start over it has to have exactly what the first N requests left,
+with a position N that it tells and that ended a commit, or to refuse the data.
 """
 import glob
 import os
@@ -22,7 +24,7 @@ REQUESTS = 40
 
 
 def made(folder, ends):
-    """Data of some requests of one client, each its own commit: `take` counts, so a table tells N."""
+    """Data of some requests of one client, each its own commit: `take` counts, so tables tell N."""
     server = Server(PROGRAM, folder, "--snapshot-every", "0").start()
     client = Client(server)
     for number in range(1, REQUESTS + 1):
@@ -41,8 +43,8 @@ def made(folder, ends):
 
 def judged(server, folder):
     """How a start over damaged data went: a prefix with its position, or refused."""
-    done = subprocess.run([PROGRAM, "--data", f"{folder}/data", "--print-tables"], capture_output=True,
-                          check=False, timeout=20)
+    done = subprocess.run([PROGRAM, "--data", f"{folder}/data", "--print-tables"],
+                          capture_output=True, check=False, timeout=20)
     told = done.stderr.decode()
     if done.returncode != 0:
         assert done.returncode in (1, 4, 8), (done.returncode, told)
@@ -83,7 +85,8 @@ def main():
                 for how in ("turned", "bit", "cut"):
                     places = range(max(0, size - LAST), size, STEP)
                     count = Counter(tried(server, name, how, at) for at in places)
-                    print(f"damage: {ends}: {name}: {len(places)} times {how}: {dict(count)}", flush=True)
+                    print(f"damage: {ends}: {name}: {len(places)} times {how}: {dict(count)}",
+                          flush=True)
 
 
 main()

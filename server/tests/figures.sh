@@ -1,8 +1,7 @@
 #!/usr/bin/env bash
-# Figures beside redis-server in one run: server/tests/figures.sh SERVER [SECONDS], which is built with
-# optimization. `take` adds to a kept number and answers it, as a handler and as a function in Lua of the
-# same words; redis-benchmark sends both the same requests. Three rounds by turns; the least and the
-# median of requests a second.
+# Figures beside redis-server in one run: server/tests/figures.sh SERVER [SECONDS]. `take` adds to a
+# kept number and answers it, as a handler and as a function in Lua; redis-benchmark sends both the
+# same requests. Three rounds by turns; the least and the median of requests a second.
 set -euo pipefail
 server=$(realpath "$1")
 seconds=${2:-2}

@@ -1,12 +1,13 @@
 #!/usr/bin/env python3
 """Kills under load: kills.py SERVER COUNT CONNECTIONS CHECK [snapshots] [words of the server..]
 
-SERVER is killed by SIGKILL COUNT times at random moments while CONNECTIONS clients each send a request,
-wait for its answer, and send the next. Each request has a number (ONCE), and one that has no answer is
-sent again with its number to the next start. So each `take` of a client has to answer how many there
-were, in order: none is lost, none is done twice; and the sum that all `plus` to is exact. A client that
-only reads the sum may never see one that is later gone. At the end the server is ended in order, and
-without `snapshots` its tables are compared with those that CHECK (embedding/check.c) dumps of the log.
+SERVER is killed by SIGKILL COUNT times at random moments while CONNECTIONS clients each send a
+request, wait for its answer, and send the next. Each request has a number (ONCE), and one that has
+no answer is sent again with its number to the next start. So each `take` of a client has to answer
+how many there were, in order: none is lost, none is done twice; and the sum that all `plus` to is
+exact. A client that only reads the sum may never see one that is later gone. At the end the server
+is ended in order, and without `snapshots` its tables are compared with those that CHECK
+(embedding/check.c) dumps of the log.
 """
 import os
 import random
@@ -47,7 +48,8 @@ class Sender:
         if not some:
             raise ConnectionError("gone")
         self.read += some
-        if not self.read.endswith(b"\r\n") or self.read.startswith(b"$") and self.read.count(b"\n") < 2:
+        lines = 2 if self.read.startswith(b"$") else 1
+        if not self.read.endswith(b"\r\n") or self.read.count(b"\n") < lines:
             return False
         answer, self.read, self.waits = self.read, b"", False
         if self.number % 2:
@@ -131,7 +133,9 @@ def compare(server, check):
 def series(program, rounds, connections, check, snapshots, words):
     """Some kills over the same data: how many answers came."""
     with tempfile.TemporaryDirectory() as folder:
-        more = ["--snapshot-every", "300", "--checkpoint", "30"] if snapshots else ["--snapshot-every", "0", "--keep-log"]
+        more = ["--snapshot-every", "0", "--keep-log"]
+        if snapshots:
+            more = ["--snapshot-every", "300", "--checkpoint", "30"]
         server = Server(program, folder, *more, *words)
         clients = [Sender(f"c{i}") for i in range(connections)] + [Reader()]
         count = 0
@@ -160,8 +164,8 @@ def series(program, rounds, connections, check, snapshots, words):
 
 def main():
     """Runs all series."""
-    program, kills, connections, check = sys.argv[1], int(sys.argv[2]), int(sys.argv[3]), sys.argv[4]
-    words = sys.argv[5:]
+    program, kills, connections = sys.argv[1], int(sys.argv[2]), int(sys.argv[3])
+    check, words = sys.argv[4], sys.argv[5:]
     snapshots = words[:1] == ["snapshots"]
     answers, left = 0, kills
     while left > 0:
@@ -169,7 +173,8 @@ def main():
         answers += series(program, rounds, connections, check, snapshots, words[snapshots:])
         left -= rounds
     print(f"kills: {os.path.basename(program)}: {kills} kills under {connections} connections"
-          f"{', with snapshots' if snapshots else ''}: {answers} answers, none lost, none done twice")
+          f"{', with snapshots' if snapshots else ''}: {answers} answers,"
+          " none lost, none done twice")
 
 
 main()

@@ -1,5 +1,5 @@
 #!/usr/bin/env python3
-"""Copies the server's sources with an edit: plant.py EDIT FOLDER. The text that it changes is once there."""
+"""Copies the server's sources with an edit, whose text is once there: plant.py EDIT FOLDER"""
 import os
 import shutil
 import sys
