@@ -28,7 +28,8 @@ int offline_print_log(void) {
     struct named named;
     log_open(options.data, false);
     log_head(&head, &named);
-    printf("%.*s\n%%%%\n", (int)head.handlers.size, head.handlers.at);
+    fwrite(head.handlers.at, 1, head.handlers.size, stdout);
+    if (!tables_divides(&head.handlers)) printf("\n%%%%\n");
     bool begun = false;
     log_rows(print_row, &begun);
     return STATUS_FINE;

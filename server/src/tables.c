@@ -46,11 +46,15 @@ static int open_over(const struct bytes *text, uint32_t most_names,
     return status;
 }
 
+bool tables_divides(const struct bytes *text) {
+    return memmem(text->at, text->size, "\n%%\n", 4) != NULL;
+}
+
 void tables_open(const struct bytes *text, uint32_t most_names) {
     struct bytes whole = { NULL, 0, 0 };
     char why[FORESIGHT_MESSAGE_ROOM];
     bytes_put(&whole, text->at, text->size);
-    if (memmem(text->at, text->size, "\n%%\n", 4) == NULL) bytes_text(&whole, "\n%%\n");
+    if (!tables_divides(text)) bytes_text(&whole, "\n%%\n");
     if (open_over(&whole, most_names, why) != FORESIGHT_SESSION_FINE) {
         give_up(STATUS_REFUSED, "handlers or tables: %s", why);
     }

@@ -21,6 +21,8 @@ void refuse(struct outcome *out, const char *format, ...) __attribute__((format(
  * when, is not in it. */
 enum { NAMES_WITHOUT_BOUND = 2000000000 };
 
+/* Whether a text has the line `%%` before requests. */
+bool tables_divides(const struct bytes *text);
 /* Opens it over a session file without requests; a line `%%` is added if there is none. */
 void tables_open(const struct bytes *text, uint32_t most_names);
 /* Serves handler and arguments, each of which is a value. May become the library's typed call. */

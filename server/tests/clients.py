@@ -187,6 +187,20 @@ def test_now(folder):
     assert f"store t {last}\n".encode() in server.run("--print-log")[1]
 
 
+def test_opening_tables(folder):
+    """Handlers with opening tables; the log is a session file."""
+    server = Server(PROGRAM, folder, handlers=HANDLERS + "%% tables\nkept a 7\n%%\n").start()
+    client = Client(server)
+    assert client("take", "a", 1) == 8
+    server.kill()
+    wanted = f"{HANDLERS}%% tables\nkept a 7\n%%\ntake a 1\n".encode()
+    assert server.run("--print-log")[1] == wanted
+    for how in ("kill", "stop", "kill"):
+        client = Client(server.start())
+        assert client("taken", "a") == 8, how
+        getattr(server, how)()
+
+
 def test_password(folder):
     """Beyond loopback only with a password; before AUTH nothing is served."""
     with open(f"{folder}/password", "w", encoding="utf-8") as out:
