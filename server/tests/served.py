@@ -1,9 +1,11 @@
 """A server as a process, and a client that speaks RESP or lines, for the tests beside it."""
 import atexit
 import os
+import shutil
 import signal
 import socket
 import subprocess
+import tempfile
 import time
 
 HANDLERS = """map sums;
@@ -133,3 +135,18 @@ class Client:
         """Ends it."""
         self.read.close()
         self.socket.close()
+
+
+def run_cases(program, cases, chosen):
+    """Runs all cases, each in a folder of its own, or those that are chosen."""
+    for name, case in list(cases.items()):
+        if not name.startswith("test_") or (chosen and name not in chosen):
+            continue
+        if name == "test_redis_programs" and shutil.which("redis-cli") is None:
+            print(f"{program}: NOT RUN: redis-cli, redis-benchmark, since there is no redis-tools")
+            continue
+        with tempfile.TemporaryDirectory() as folder:
+            began = time.monotonic()
+            os.mkdir(f"{folder}/in")
+            case(f"{folder}/in")
+            print(f"{program}: {name[5:]}: fine, {time.monotonic() - began:.1f} s", flush=True)
