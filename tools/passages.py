@@ -3,7 +3,7 @@
 
 No paragraph, bullet or row of a table has more than 900 characters; a file that is named in back
 quotes, alone or in a command, is there, and so are the clauses that README.md names; README.md is
-a page of 120 lines and 1,500 words at most, and docs/ has 34,000; there are nine folders at the top
+a page of 120 lines and 1,500 words at most, and docs/ has 34,000; there are ten folders at the top
 at most; no document has the words of PLAIN. The pages of crates are documents too, and
 tools/crate_pages.py looks at what they name.
 """
@@ -15,7 +15,7 @@ import sys
 import crate_pages
 import repository_counts
 
-LONGEST, LINES, WORDS, ALL_WORDS, FOLDERS = 900, 120, 1500, 34000, 9
+LONGEST, LINES, WORDS, ALL_WORDS, FOLDERS = 900, 120, 1500, 34000, 10
 USERS = ["README.md", "SECURITY.md", "CONTRIBUTING.md", "docs/TOUR.md", "docs/LANGUAGE.md",
          "docs/LIBRARY.md", "docs/PERFORMANCE.md", "docs/TESTING.md", "embedding/CALLS.md",
          "bench/HISTORY.md"]
