@@ -3,7 +3,7 @@ use Rattle.std.proofs.Common.{◌≡◌, ℕ, List, [], Option, Some, None, Resu
 use Rattle.std.specs.Prelude.{Vec}
 use Rattle.refusal_advice.specs.Advice.{IsAdvice, advice_text}
 use Rattle.refusal_advice.specs.Following.{IsStop, IsStopAt}
-use Rattle.rule_advice.specs.Token.{IsTokenAt}
+use Rattle.refusal_advice.specs.Token.{IsTokenAt}
 use Rattle.refusal_advice.specs.declared.stop.Stop.{Stop}
 
 pub advised : {E Z : Type 0} (source : List ℕ) (at : ℕ) (s : Stop) (token : List ℕ) (r : Result (Vec ℕ Z) E) → IsStop source at s → IsTokenAt source at token → IfOk r (λ text. text.items ≡ advice_text s.last s.word.sort token s.wanted.items) → IfOk r (λ text. IsAdvice source at text.items)

@@ -6,3 +6,12 @@ pub mod Kept
 pub mod Objects
 pub mod Stopping
 pub mod Telling
+pub mod Appending
+pub mod Earliest
+pub mod Mapped
+pub mod Nearing
+pub mod Rowing
+pub mod Ruling
+pub mod Seeing
+pub mod Tallying
+pub mod Unlisted

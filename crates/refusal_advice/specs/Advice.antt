@@ -8,7 +8,7 @@ use Rattle.syntax_grammar.specs.declared.refusals.SyntaxRefusal.TheVariants.{Bad
 use Rattle.refusal_advice.specs.Following.{Stands, AreWanted, last_of}
 use Rattle.refusal_advice.specs.Hints.{hint}
 use Rattle.refusal_advice.specs.Sentence.{sentence, hint_line}
-use Rattle.rule_advice.specs.Token.{IsTokenAt}
+use Rattle.refusal_advice.specs.Token.{IsTokenAt}
 use Rattle.refusal_advice.specs.declared.class.Class.{Class}
 
 -- the text on a word behind another one, where these classes are wanted

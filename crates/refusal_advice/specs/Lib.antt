@@ -7,3 +7,15 @@ pub mod Parts
 pub mod Sentence
 pub mod Told
 pub mod Walk
+pub mod Counts
+pub mod Earlier
+pub mod GivenKeys
+pub mod Limits
+pub mod Listings
+pub mod NoValues
+pub mod Rows
+pub mod Rules
+pub mod Surroundings
+pub mod Token
+pub mod Topics
+pub mod Visible

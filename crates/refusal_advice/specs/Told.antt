@@ -9,7 +9,7 @@ use Rattle.refusal_places.specs.declared.refusal.Place.{Place}
 use Rattle.refusal_places.specs.declared.refusal.Place.TheVariants.{Nowhere, Byte, Counted, Line}
 use Rattle.refusal_places.specs.Answers.{answer, said_of}
 use Rattle.refusal_places.specs.Refusals.{Said}
-use Rattle.rule_advice.specs.Topics.{IsAdviceOn, topic_of}
+use Rattle.refusal_advice.specs.Topics.{IsAdviceOn, topic_of}
 use Rattle.refusal_advice.specs.Advice.{IsAdvice}
 
 -- the rule with this word says that a token can't stand where it was found

@@ -9,7 +9,7 @@ use crate::hint::hint;
 use crate::sentence::{push_hint, push_sentence};
 use crate::stop::Stop;
 use crate::walk::stop_at;
-use rule_advice::token_at;
+use crate::token_at;
 use session_values::NoMemory;
 use std::alloc::Global;
 

@@ -10,7 +10,7 @@ ghost use Rattle.refusal_advice.specs.Told as spec;
 use crate::advice::advice_at;
 use refusal_places::{Place, Refusal, answer, refusal_of};
 use request_files::divide;
-use rule_advice::{advice_on, topic_of};
+use crate::{advice_on, topic_of};
 use session_values::{MAX_INPUT, NoMemory};
 use std::alloc::Global;
 

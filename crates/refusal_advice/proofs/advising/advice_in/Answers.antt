@@ -1,4 +1,4 @@
-use Rattle.rule_advice.proofs.Mapped.{ok_map}
+use Rattle.refusal_advice.proofs.Mapped.{ok_map}
 use Rattle.refusal_advice.proofs.Telling.{of_other, of_text}
 use Rattle.refusal_advice.proofs.advising.advice_in.Goals as goal
 
