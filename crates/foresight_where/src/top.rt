@@ -5,12 +5,13 @@ ghost use Rattle.byte_ends.specs.Changes.{change};
 ghost use Rattle.foresight_where.specs.Endings.{most};
 ghost use Rattle.foresight_where.specs.Runs.{EndsWithLine, Runs, RunsAlone, RunsBefore, Places, PlacesIn};
 
-use crate::asking::{Asked, Form};
+use crate::asking::Asked;
 use crate::choosing::cut_input;
 use crate::ending::Ending;
 use crate::reading::{read_bytes, read_file};
 use crate::showing::{show, show_rules, show_version};
 use byte_ends::{Sink, Source, write_all};
+use refusal_advice::Form;
 use refusal_places::names_place;
 use standard_streams::OpensFiles;
 use std::alloc::Global;

@@ -12,7 +12,7 @@ use crate::class::Class;
 use crate::part::Part;
 use crate::stop::Stop;
 use crate::taking::{may_end, take};
-use crate::names_for;
+use crate::names::names_for;
 use session_values::NoMemory;
 use std::alloc::Global;
 use syntax_grammar::{Reader, Sort, Word};

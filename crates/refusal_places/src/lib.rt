@@ -21,7 +21,7 @@ pub use pieces::push_place;
 pub use placing::place_text;
 pub use reading::refusal_of;
 pub use refusal::{Place, Refusal};
-pub use rule::{PlaceKind, Rule};
+pub use rule::{PlaceKind, Rule, Topic};
 pub use rule_table::rules;
 pub use rule_text::rules_text;
 pub use spot::{Spot, byte_spot, column_of, line_spot};

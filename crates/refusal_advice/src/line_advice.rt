@@ -1,0 +1,182 @@
+// What is advised of a line of a file.
+
+ghost use Rattle.std.specs.Prelude.{◌≤◌, ◌+◌, length};
+ghost use Rattle.session_values.specs.Limits.{max_input};
+
+use crate::advice::Advice;
+use crate::heads::{Declared, end_of_handlers, head_of, heads};
+use crate::no_value::{is_value, reason};
+use crate::word_advice::{line_of, say_given};
+use itoa::Buffer;
+use request_files::divide;
+use session_values::NoMemory;
+use std::alloc::Global;
+use text_lines::{Line, Lines, number};
+
+/// The line of a text with this number from 1, if it has so many.
+fn line_at(text: &str, number: u32) -> Option<Line<'_>>
+    requires { length text.now ≤ max_input }
+{
+    for (each, line) in Lines::over(text, 1) {
+        if each == number {
+            return Some(line);
+        }
+    }
+    None
+}
+
+/// How many words are left.
+fn count(words: Line<'_>) -> u64 {
+    let mut count: u64 = 0;
+    for _ in words {
+        count = count.saturating_add(1);
+    }
+    count
+}
+
+/// How many words the handler or the table takes that a line names.
+pub(crate) fn words_taken(
+    alloc: Global,
+    advice: &mut Advice,
+    source: &str,
+    text: &str,
+    at: u32,
+    handler: bool,
+) -> Result<(), NoMemory>
+    requires source { length source.now ≤ max_input }
+    requires text { length text.now ≤ max_input }
+{
+    let Some(mut words) = line_at(text, at) else {
+        return Ok(());
+    };
+    let Some(name) = words.next() else {
+        return Ok(());
+    };
+    let heads = heads(alloc, source)?;
+    let Some(head) = head_of(heads.as_slice(), name, handler) else {
+        return Ok(());
+    };
+    let given = count(words);
+    let mut buffer = Buffer::new();
+    match head.declared {
+        Declared::Map => {
+            let behind = "` has a key and a value behind the name";
+            say_given(advice, &["a line of the map `", name, behind], given)
+        }
+        Declared::Set => {
+            let behind = "` has a key behind the name";
+            say_given(advice, &["a line of the set `", name, behind], given)
+        }
+        Declared::Handler => {
+            let params = if head.params == 0 {
+                "no"
+            } else {
+                buffer.format(head.params)
+            };
+            let word = if head.params == 1 { " argument" } else { " arguments" };
+            say_given(advice, &["`", name, "` takes ", params, word], given)
+        }
+    }
+}
+
+/// Why a word of a line is no value.
+pub(crate) fn no_value(advice: &mut Advice, text: &str, at: u32) -> Result<(), NoMemory>
+    requires { length text.now ≤ max_input }
+{
+    let Some(mut words) = line_at(text, at) else {
+        return Ok(());
+    };
+    let _name = words.next();
+    for word in words {
+        if !is_value(word) {
+            let (front, n, end) = reason(word);
+            let mut buffer = Buffer::new();
+            let number = match n {
+                Some(n) => buffer.format(n),
+                None => "",
+            };
+            return advice.say(&["`", word, "` is no value: ", front, number, end]);
+        }
+    }
+    Ok(())
+}
+
+/// Whether two words are one value.
+fn is_same(word: &str, other: &str) -> bool {
+    if word == other {
+        return true;
+    }
+    match (number(word), number(other)) {
+        (Some(m), Some(n)) => m == n,
+        _ => false,
+    }
+}
+
+/// In which line a table was given the key before that a line gives it.
+pub(crate) fn given_key(advice: &mut Advice, text: &str, at: u32) -> Result<(), NoMemory>
+    requires { length text.now ≤ max_input }
+{
+    let Some(mut words) = line_at(text, at) else {
+        return Ok(());
+    };
+    let (Some(table), Some(key)) = (words.next(), words.next()) else {
+        return Ok(());
+    };
+    let Some(parts) = divide(text) else {
+        return Ok(());
+    };
+    for (line, mut words) in Lines::over(parts.tables, parts.first_table) {
+        if at <= line {
+            return Ok(());
+        }
+        let (Some(name), Some(word)) = (words.next(), words.next()) else {
+            continue;
+        };
+        if name == table && is_same(word, key) {
+            let mut buffer = Buffer::new();
+            let line = buffer.format(line);
+            let (link, spelled, end) = if word == key {
+                ("", "", "")
+            } else {
+                (", as `", word, "`")
+            };
+            return advice.say(&[
+                "`", table, "` was given the key `", key, "` in line ", line, link, spelled, end,
+            ]);
+        }
+    }
+    Ok(())
+}
+
+/// How many lines the tables of a session file have.
+pub(crate) fn table_lines(advice: &mut Advice, text: &str) -> Result<(), NoMemory>
+    requires { length text.now ≤ max_input }
+{
+    let tables = match divide(text) {
+        Some(parts) => parts.tables,
+        None => "",
+    };
+    let mut rows: u64 = 0;
+    for (_, mut words) in Lines::over(tables, 1) {
+        if words.next().is_some() {
+            rows = rows.saturating_add(1);
+        }
+    }
+    let mut buffer = Buffer::new();
+    let behind = " lines, and a session file has at most 100000";
+    advice.say(&["the tables have ", buffer.format(rows), behind])
+}
+
+/// Where the line `%%` is missing.
+pub(crate) fn halves(advice: &mut Advice, source: &str) -> Result<(), NoMemory>
+    requires { length source.now ≤ max_input }
+{
+    let mut buffer = Buffer::new();
+    match end_of_handlers(source) {
+        Some(at) => {
+            let line = buffer.format(line_of(source, at));
+            advice.say(&["the handlers end before line ", line, ": put a line `%%` there"])
+        }
+        None => advice.say(&["a line `%%` stands behind the handlers, also where no request is"]),
+    }
+}
