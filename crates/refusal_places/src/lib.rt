@@ -15,7 +15,7 @@ mod rule_table;
 mod rule_text;
 mod spot;
 
-pub use answering::{answer, names_place};
+pub use answering::{answer, needs_file};
 pub use finding::rule_of;
 pub use pieces::push_place;
 pub use placing::place_text;
