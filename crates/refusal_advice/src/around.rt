@@ -20,7 +20,7 @@ pub(crate) struct Around<'a> {
 }
 
 /// The tokens around a byte place of a text of handlers.
-pub(crate) fn around(source: &str, at: u32) -> Around<'_>
+pub(crate) fn tokens_around(source: &str, at: u32) -> Around<'_>
     requires { length source.now ≤ max_input }
 {
     let mut around = Around {

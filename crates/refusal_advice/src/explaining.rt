@@ -70,12 +70,7 @@ fn advice_to(alloc: Global, file: &[u8], input: &[u8]) -> Result<Vec<String>, No
 
 /// The text that shows where the rule is broken that a refusal's line names, and behind it what is
 /// advised there.
-fn told(
-    alloc: Global,
-    name: &str,
-    file: &[u8],
-    input: &[u8],
-) -> Result<Option<Vec<u8>>, NoMemory>
+fn told(alloc: Global, name: &str, file: &[u8], input: &[u8]) -> Result<Option<Vec<u8>>, NoMemory>
     requires file { length file.now < 4294967296 }
     requires input { length input.now < 4294967295 }
     ensures { IfOk result (spec.IsToldTo name.now file.now input.now) }

@@ -4,7 +4,7 @@ ghost use Rattle.std.specs.Prelude.{◌≡◌, ◌≤◌, length, map, string_by
 ghost use Rattle.session_values.specs.Limits.{max_input};
 ghost use Rattle.refusal_advice.specs.Advice as spec;
 
-use crate::around::around;
+use crate::around::tokens_around;
 use crate::heads::{head_of, heads};
 use crate::hint::Mistake;
 use crate::sentence::sentence;
@@ -30,7 +30,7 @@ fn call_hint(alloc: Global, source: &str, stop: &Stop, name: &str) -> Result<boo
 fn hint(alloc: Global, source: &str, stop: &Stop, token: &str) -> Result<String, NoMemory>
     requires { length source.now ≤ max_input }
 {
-    let around = around(source, stop.word.at);
+    let around = tokens_around(source, stop.word.at);
     let mut text = String::new(alloc);
     if call_hint(alloc, source, stop, around.last)? {
         text.push_str("`")?;

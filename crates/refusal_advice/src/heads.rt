@@ -27,7 +27,7 @@ pub(crate) struct Head<'a> {
 }
 
 /// The head that begins with a name behind this token.
-fn head<'a>(last: &str, token: Token<'a>) -> Option<Head<'a>> {
+fn begun<'a>(last: &str, token: Token<'a>) -> Option<Head<'a>> {
     let declared = match last {
         "map" => Declared::Map,
         "set" => Declared::Set,
@@ -51,7 +51,7 @@ pub(crate) fn heads(alloc: Global, source: &str) -> Result<Vec<Head<'_>>, NoMemo
     let mut in_head = false;
     for token in Tokens::over(source) {
         if token.kind == TokenKind::Name {
-            match head(last, token) {
+            match begun(last, token) {
                 Some(head) => {
                     in_head = head.declared == Declared::Handler;
                     heads.push(head)?;

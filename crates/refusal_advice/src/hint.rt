@@ -221,7 +221,10 @@ impl Mistake<'_> {
             }
         } else if !self.wants(Class::Semicolon) {
             ""
-        } else if matches!((self.last, self.found), (Some(Sort::Symbol(_)), Sort::Name(_))) {
+        } else if matches!(
+            (self.last, self.found),
+            (Some(Sort::Symbol(_)), Sort::Name(_))
+        ) {
             ONE_WORD
         } else {
             SEMI

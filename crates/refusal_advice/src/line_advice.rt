@@ -73,10 +73,24 @@ pub(crate) fn words_taken(
             } else {
                 buffer.format(head.params)
             };
-            let word = if head.params == 1 { " argument" } else { " arguments" };
+            let word = if head.params == 1 {
+                " argument"
+            } else {
+                " arguments"
+            };
             say_given(advice, &["`", name, "` takes ", params, word], given)
         }
     }
+}
+
+/// The first of these words that is no value, if there is one.
+fn first_bad<'a>(words: Line<'a>) -> Option<&'a str> {
+    for word in words {
+        if !is_value(word) {
+            return Some(word);
+        }
+    }
+    None
 }
 
 /// Why a word of a line is no value.
@@ -87,18 +101,23 @@ pub(crate) fn no_value(advice: &mut Advice, text: &str, at: u32) -> Result<(), N
         return Ok(());
     };
     let _name = words.next();
-    for word in words {
-        if !is_value(word) {
-            let (front, n, end) = reason(word);
-            let mut buffer = Buffer::new();
-            let number = match n {
-                Some(n) => buffer.format(n),
-                None => "",
-            };
-            return advice.say(&["`", word, "` is no value: ", front, number, end]);
-        }
+    match first_bad(words) {
+        Some(word) => say_no_value(advice, word),
+        None => Ok(()),
     }
-    Ok(())
+}
+
+/// Why this word is none.
+fn say_no_value(advice: &mut Advice, word: &str) -> Result<(), NoMemory> {
+    let (front, n, end) = reason(word);
+    let mut buffer = Buffer::new();
+    match n {
+        Some(n) => {
+            let number = buffer.format(n);
+            advice.say(&["`", word, "` is no value: ", front, number, end])
+        }
+        None => advice.say(&["`", word, "` is no value: ", front]),
+    }
 }
 
 /// Whether two words are one value.
@@ -110,6 +129,31 @@ fn is_same(word: &str, other: &str) -> bool {
         (Some(m), Some(n)) => m == n,
         _ => false,
     }
+}
+
+/// The first line before line `at` that gives this table this key, and the key as it is written
+/// there, in a table part whose first line has this number.
+fn given_before<'a>(
+    table: &str,
+    key: &str,
+    part: &'a str,
+    first: u32,
+    at: u32,
+) -> Option<(u32, &'a str)>
+    requires { first + length part.now ≤ 4294967295 }
+{
+    for (line, words) in Lines::over(part, first) {
+        if at <= line {
+            return None;
+        }
+        let mut words = words;
+        if let (Some(name), Some(word)) = (words.next(), words.next()) {
+            if name == table && is_same(word, key) {
+                return Some((line, word));
+            }
+        }
+    }
+    None
 }
 
 /// In which line a table was given the key before that a line gives it.
@@ -125,27 +169,37 @@ pub(crate) fn given_key(advice: &mut Advice, text: &str, at: u32) -> Result<(), 
     let Some(parts) = divide(text) else {
         return Ok(());
     };
-    for (line, mut words) in Lines::over(parts.tables, parts.first_table) {
-        if at <= line {
-            return Ok(());
-        }
-        let (Some(name), Some(word)) = (words.next(), words.next()) else {
-            continue;
-        };
-        if name == table && is_same(word, key) {
-            let mut buffer = Buffer::new();
-            let line = buffer.format(line);
-            let (link, spelled, end) = if word == key {
-                ("", "", "")
-            } else {
-                (", as `", word, "`")
-            };
-            return advice.say(&[
-                "`", table, "` was given the key `", key, "` in line ", line, link, spelled, end,
-            ]);
-        }
+    match given_before(table, key, parts.tables, parts.first_table, at) {
+        Some((line, word)) => say_given_key(advice, table, key, line, word),
+        None => Ok(()),
     }
-    Ok(())
+}
+
+/// That the table was given the key in this line, written so.
+fn say_given_key(
+    advice: &mut Advice,
+    table: &str,
+    key: &str,
+    line: u32,
+    word: &str,
+) -> Result<(), NoMemory> {
+    let mut buffer = Buffer::new();
+    let line = buffer.format(line);
+    if word == key {
+        advice.say(&["`", table, "` was given the key `", key, "` in line ", line])
+    } else {
+        advice.say(&[
+            "`",
+            table,
+            "` was given the key `",
+            key,
+            "` in line ",
+            line,
+            ", as `",
+            word,
+            "`",
+        ])
+    }
 }
 
 /// How many lines the tables of a session file have.
@@ -157,7 +211,8 @@ pub(crate) fn table_lines(advice: &mut Advice, text: &str) -> Result<(), NoMemor
         None => "",
     };
     let mut rows: u64 = 0;
-    for (_, mut words) in Lines::over(tables, 1) {
+    for (_, words) in Lines::over(tables, 1) {
+        let mut words = words;
         if words.next().is_some() {
             rows = rows.saturating_add(1);
         }
@@ -175,7 +230,11 @@ pub(crate) fn halves(advice: &mut Advice, source: &str) -> Result<(), NoMemory>
     match end_of_handlers(source) {
         Some(at) => {
             let line = buffer.format(line_of(source, at));
-            advice.say(&["the handlers end before line ", line, ": put a line `%%` there"])
+            advice.say(&[
+                "the handlers end before line ",
+                line,
+                ": put a line `%%` there",
+            ])
         }
         None => advice.say(&["a line `%%` stands behind the handlers, also where no request is"]),
     }

@@ -67,12 +67,15 @@ impl<'a> Scope<'a> {
 
     /// Ends the block that was begun last.
     fn end_block(&mut self) -> Result<(), NoMemory> {
-        while let Some(variable) = self.visible.pop() {
-            if variable.depth < self.depth {
-                self.visible.push(variable)?;
-                break;
+        for _ in 0..self.visible.len() {
+            match self.visible.pop() {
+                Some(variable) if variable.depth < self.depth => {
+                    self.visible.push(variable)?;
+                    break;
+                }
+                Some(variable) => self.ended.push(variable)?,
+                None => break,
             }
-            self.ended.push(variable)?;
         }
         self.depth = self.depth.saturating_sub(1);
         Ok(())

@@ -4,7 +4,7 @@ ghost use Rattle.std.specs.Prelude.{◌≤◌, length};
 ghost use Rattle.session_values.specs.Limits.{max_input};
 
 use crate::advice::Advice;
-use crate::around::{Around, around};
+use crate::around::{Around, tokens_around};
 use crate::heads::{Declared, Head, heads};
 use crate::scope::scope_at;
 use itoa::Buffer;
@@ -25,7 +25,7 @@ pub(crate) fn line_of(source: &str, at: u32) -> u64
 /// The operation whose table's name stands at the place, if one does.
 fn called<'a>(around: Around<'a>) -> Option<Call> {
     if around.last == "(" {
-        call(around.second)
+        operation(around.second)
     } else {
         None
     }
@@ -39,7 +39,7 @@ struct Call {
 }
 
 /// The operation with this word, if it is one.
-fn call(word: &str) -> Option<Call> {
+fn operation(word: &str) -> Option<Call> {
     let (on_map, takes) = match word {
         "put" | "swap" => (true, "a key and a value"),
         "bump" => (true, "a key and a number"),
@@ -61,7 +61,7 @@ pub(crate) fn twice(
 ) -> Result<(), NoMemory>
     requires { length source.now ≤ max_input }
 {
-    let around = around(source, at);
+    let around = tokens_around(source, at);
     let mut buffer = Buffer::new();
     match around.last {
         "map" | "set" | "handler" => {
@@ -116,7 +116,7 @@ pub(crate) fn unknown(
 ) -> Result<(), NoMemory>
     requires { length source.now ≤ max_input }
 {
-    let around = around(source, at);
+    let around = tokens_around(source, at);
     if called(around).is_some() {
         advice.say(&["no table `", around.found, "` is declared"])?;
         return tables(alloc, advice, source);
@@ -154,7 +154,11 @@ fn say_unknown(advice: &mut Advice, around: Around<'_>) -> Result<(), NoMemory> 
     let name = around.found;
     match name {
         "null" | "Null" | "NULL" | "None" | "none" | "undefined" => {
-            advice.say(&["no variable `", name, "` is visible here; the value of nothing is `nil`"])
+            advice.say(&[
+                "no variable `",
+                name,
+                "` is visible here; the value of nothing is `nil`",
+            ])
         }
         "true" | "false" | "True" | "False" => advice.say(&[
             "no variable `",
@@ -228,7 +232,11 @@ fn say_names(advice: &mut Advice, front: &str, names: &[&str]) -> Result<(), NoM
 /// Appends how many words are given.
 pub(crate) fn say_given(advice: &mut Advice, parts: &[&str], given: u64) -> Result<(), NoMemory> {
     let mut buffer = Buffer::new();
-    let number = if given == 0 { "none" } else { buffer.format(given) };
+    let number = if given == 0 {
+        "none"
+    } else {
+        buffer.format(given)
+    };
     let verb = if given < 2 { " is given" } else { " are given" };
     let mut front = String::new(advice.alloc());
     for part in parts {
@@ -241,10 +249,16 @@ pub(crate) fn say_given(advice: &mut Advice, parts: &[&str], given: u64) -> Resu
 pub(crate) fn arguments(advice: &mut Advice, source: &str, at: u32) -> Result<(), NoMemory>
     requires { length source.now ≤ max_input }
 {
-    let around = around(source, at);
-    match call(around.found) {
+    let around = tokens_around(source, at);
+    match operation(around.found) {
         Some(call) => {
-            let parts = ["`", around.found, "` takes ", call.takes, " behind its table"];
+            let parts = [
+                "`",
+                around.found,
+                "` takes ",
+                call.takes,
+                " behind its table",
+            ];
             say_given(advice, &parts, u64::from(around.commas))
         }
         None => Ok(()),
@@ -255,7 +269,7 @@ pub(crate) fn arguments(advice: &mut Advice, source: &str, at: u32) -> Result<()
 pub(crate) fn other_kind(advice: &mut Advice, source: &str, at: u32) -> Result<(), NoMemory>
     requires { length source.now ≤ max_input }
 {
-    let around = around(source, at);
+    let around = tokens_around(source, at);
     let Some(call) = called(around) else {
         return Ok(());
     };
@@ -273,7 +287,7 @@ const MORE_TURNS: &str = "a loop has from 1 to 1000 turns: for more, put it into
 pub(crate) fn number(advice: &mut Advice, source: &str, at: u32) -> Result<(), NoMemory>
     requires { length source.now ≤ max_input }
 {
-    match around(source, at).last {
+    match tokens_around(source, at).last {
         "repeat" => advice.say(&[MORE_TURNS]),
         _ => advice.say(&["a number is from -9223372036854775808 to 9223372036854775807"]),
     }
@@ -283,7 +297,7 @@ pub(crate) fn number(advice: &mut Advice, source: &str, at: u32) -> Result<(), N
 pub(crate) fn nesting(advice: &mut Advice, source: &str, at: u32) -> Result<(), NoMemory>
     requires { length source.now ≤ max_input }
 {
-    match around(source, at).found {
+    match tokens_around(source, at).found {
         "{" => advice.say(&[
             "at most 16 blocks stand in one another, a handler's own being the first",
         ]),
@@ -300,7 +314,7 @@ pub(crate) fn nesting(advice: &mut Advice, source: &str, at: u32) -> Result<(), 
 pub(crate) fn turns(advice: &mut Advice, source: &str, at: u32) -> Result<(), NoMemory>
     requires { length source.now ≤ max_input }
 {
-    match around(source, at).found {
+    match tokens_around(source, at).found {
         "0" => advice.say(&["a loop has from 1 to 1000 turns: one without a turn is left out"]),
         _ => advice.say(&[MORE_TURNS]),
     }
