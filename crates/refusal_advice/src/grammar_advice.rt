@@ -52,7 +52,7 @@ fn hint(alloc: Global, source: &str, stop: &Stop, token: &str) -> Result<String,
 
 /// These lines, the second only where it has a text.
 fn lines_of(alloc: Global, sentence: String, hint: String) -> Result<Vec<String>, NoMemory>
-    ensures { IfOk result (λ lines. spec.BeginsWith (string_bytes sentence.entry)
+    ensures { IfOk result (λ lines. spec.BeginsWith (string_bytes sentence)
         (map string_bytes lines.items)) }
 {
     if hint.is_empty() {

@@ -57,30 +57,57 @@ pub(crate) fn words_taken(
         return Ok(());
     };
     let given = count(words);
-    let mut buffer = Buffer::new();
     match head.declared {
         Declared::Map => {
-            let behind = "` has a key and a value behind the name";
-            say_given(advice, &["a line of the map `", name, behind], given)
+            say_taken(
+                advice,
+                "a line of the map `",
+                name,
+                "` has a key and a value behind the name",
+                given,
+            )
         }
         Declared::Set => {
-            let behind = "` has a key behind the name";
-            say_given(advice, &["a line of the set `", name, behind], given)
+            say_taken(
+                advice,
+                "a line of the set `",
+                name,
+                "` has a key behind the name",
+                given,
+            )
         }
-        Declared::Handler => {
-            let params = if head.params == 0 {
-                "no"
-            } else {
-                buffer.format(head.params)
-            };
-            let word = if head.params == 1 {
-                " argument"
-            } else {
-                " arguments"
-            };
-            say_given(advice, &["`", name, "` takes ", params, word], given)
-        }
+        Declared::Handler => say_params(advice, name, head.params, given),
     }
+}
+
+/// What is taken, and how many words are given.
+fn say_taken(
+    advice: &mut Advice,
+    front: &str,
+    name: &str,
+    behind: &str,
+    given: u64,
+) -> Result<(), NoMemory> {
+    say_given(advice, &[front, name, behind], given)
+}
+
+/// How many arguments a handler takes, and how many are given.
+fn say_params(advice: &mut Advice, name: &str, params: u32, given: u64) -> Result<(), NoMemory> {
+    let mut buffer = Buffer::new();
+    match params {
+        0 => say_taken(advice, "`", name, "` takes no arguments", given),
+        1 => say_taken(advice, "`", name, "` takes 1 argument", given),
+        n => say_number(advice, name, buffer.format(n), given),
+    }
+}
+
+/// The same of more than one.
+fn say_number(advice: &mut Advice, name: &str, params: &str, given: u64) -> Result<(), NoMemory> {
+    say_given(
+        advice,
+        &["`", name, "` takes ", params, " arguments"],
+        given,
+    )
 }
 
 /// The first of these words that is no value, if there is one.
@@ -112,12 +139,20 @@ fn say_no_value(advice: &mut Advice, word: &str) -> Result<(), NoMemory> {
     let (front, n, end) = reason(word);
     let mut buffer = Buffer::new();
     match n {
-        Some(n) => {
-            let number = buffer.format(n);
-            advice.say(&["`", word, "` is no value: ", front, number, end])
-        }
-        None => advice.say(&["`", word, "` is no value: ", front]),
+        Some(n) => say_reason(advice, word, front, buffer.format(n), end),
+        None => say_reason(advice, word, front, "", end),
     }
+}
+
+/// The same, by parts.
+fn say_reason(
+    advice: &mut Advice,
+    word: &str,
+    front: &str,
+    number: &str,
+    end: &str,
+) -> Result<(), NoMemory> {
+    advice.say(&["`", word, "` is no value: ", front, number, end])
 }
 
 /// Whether two words are one value.
@@ -186,20 +221,37 @@ fn say_given_key(
     let mut buffer = Buffer::new();
     let line = buffer.format(line);
     if word == key {
-        advice.say(&["`", table, "` was given the key `", key, "` in line ", line])
+        say_key(advice, table, key, line)
     } else {
-        advice.say(&[
-            "`",
-            table,
-            "` was given the key `",
-            key,
-            "` in line ",
-            line,
-            ", as `",
-            word,
-            "`",
-        ])
+        say_spelled(advice, table, key, line, word)
     }
+}
+
+/// The same, by parts.
+fn say_key(advice: &mut Advice, table: &str, key: &str, line: &str) -> Result<(), NoMemory> {
+    advice.say(&["`", table, "` was given the key `", key, "` in line ", line])
+}
+
+/// The same of a key that was written otherwise.
+fn say_spelled(
+    advice: &mut Advice,
+    table: &str,
+    key: &str,
+    line: &str,
+    word: &str,
+) -> Result<(), NoMemory> {
+    let front = "` was given the key `";
+    advice.say(&[
+        "`",
+        table,
+        front,
+        key,
+        "` in line ",
+        line,
+        ", as `",
+        word,
+        "`",
+    ])
 }
 
 /// How many lines the tables of a session file have.

@@ -251,18 +251,18 @@ pub(crate) fn arguments(advice: &mut Advice, source: &str, at: u32) -> Result<()
 {
     let around = tokens_around(source, at);
     match operation(around.found) {
-        Some(call) => {
-            let parts = [
-                "`",
-                around.found,
-                "` takes ",
-                call.takes,
-                " behind its table",
-            ];
-            say_given(advice, &parts, u64::from(around.commas))
-        }
+        Some(call) => { say_arguments(advice, around.found, call.takes, u64::from(around.commas)) }
         None => Ok(()),
     }
+}
+
+/// What the operation with this word takes, and how many words are given.
+fn say_arguments(advice: &mut Advice, word: &str, takes: &str, given: u64) -> Result<(), NoMemory> {
+    say_given(
+        advice,
+        &["`", word, "` takes ", takes, " behind its table"],
+        given,
+    )
 }
 
 /// On which tables an operation works.
