@@ -33,6 +33,7 @@ pub(crate) fn first_line(text: &str) -> &str
 }
 
 /// Appends lines of advice, each behind `= `.
+#[tactic(auto, using(crate::proofs::AdviceLines::advice_more, crate::proofs::AdviceLines::advice_all))]
 fn push_advice(text: &mut Vec<u8>, lines: &[String]) -> Result<(), NoMemory>
     ensures { OnOk result (text.new.items
         ≡ text.old.items ++ flat_map spec.advice_line (map string_bytes lines.now)) }
