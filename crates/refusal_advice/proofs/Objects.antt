@@ -11,10 +11,10 @@ use Rattle.serde_json.specs.declared.value.Value.TheVariants as value
 use Rattle.refusal_places.specs.declared.refusal.Place.{Place}
 use Rattle.refusal_places.specs.declared.refusal.Place.TheVariants.{Nowhere, Byte, Counted, Line}
 use Rattle.refusal_places.specs.Answers.{answer, answer_by, said_of}
-use Rattle.refusal_places.specs.PlaceText.{caret_text, counted, head_line, line_text, text_at}
+use Rattle.refusal_places.specs.PlaceText.{caret_text, counted, line_text, text_at}
 use Rattle.refusal_places.specs.Refusals.{Said}
 use Rattle.refusal_places.specs.Spots.{Spot, byte_spot, line_spot}
-use Rattle.refusal_advice.specs.Json.{IsJson, IsJsonBy, IsJsonIn, IsJsonOf, IsJsonTo, count_value, json_text, line_value, numbers_of, refusal_value, spot_numbers}
+use Rattle.refusal_advice.specs.Json.{IsJsonBy, IsJsonIn, IsJsonOf, IsJsonTo, count_value, json_text, line_value, numbers_of, refusal_value, spot_numbers}
 use Rattle.refusal_advice.specs.Told.{IsAdviceFor}
 use Rattle.refusal_advice.specs.declared.json.Numbers.{Numbers}
 

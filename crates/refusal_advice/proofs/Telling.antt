@@ -1,15 +1,14 @@
 -- What is told of a refusal, by what its file is.
-use Rattle.std.proofs.Common.{◌≡◌, ◌≤◌, ◌<◌, ℕ, Bool, true, false, ◌&&◌, nat_le, List, [], length, Some, None, IsUtf8, sym, ap, ◌∙◌, subst, arith}
+use Rattle.std.proofs.Common.{◌≡◌, ◌<◌, ℕ, Bool, true, false, nat_le, List, [], length, Some, None, IsUtf8, sym, ◌∙◌, subst, arith}
 use Rattle.std.specs.Str.{is_utf8}
 use Rattle.std.proofs.lemmas.Bool.{and_parts}
 use Rattle.std.proofs.lemmas.Bool.Decides.{nat_tests}
 use Rattle.std.proofs.lemmas.Str.{IsUtf8-from_is_utf8}
 use Rattle.session_values.specs.Limits.{max_input}
-use Rattle.refusal_places.specs.declared.refusal.Place.{Place}
 use Rattle.refusal_places.specs.Answers.{said_of}
 use Rattle.refusal_places.specs.Refusals.{Said}
 use Rattle.refusal_advice.specs.Advice.{IsAdvice}
-use Rattle.refusal_advice.specs.Told.{IsAdviceFor, IsAdviceIn, IsAdviceTo, byte_of, handlers_of, is_readable, is_of_grammar}
+use Rattle.refusal_advice.specs.Told.{IsAdviceFor, IsAdviceIn, IsAdviceTo, byte_of, handlers_of, is_of_grammar}
 
 too_long : (n : ℕ) → max_input < n → nat_le n max_input ≡ true → ⊥
 too_long n h e = grind (arith, nat_tests, h, e)

@@ -2,7 +2,7 @@ use Rattle.std.proofs.Common.{map, string_bytes}
 use Rattle.refusal_places.specs.Refusals.{said}
 use Rattle.refusal_places.specs.RuleTable.{row_of}
 use Rattle.refusal_advice.proofs.Mapped.{ok_map}
-use Rattle.refusal_advice.proofs.Telling.{of_long, of_other, of_text}
+use Rattle.refusal_advice.proofs.Telling.{of_other, of_text}
 use Rattle.refusal_advice.proofs.advising.advice_for.Goals as goal
 
 pub returns-in-Ok : goal.returns-in-Ok
