@@ -3,7 +3,7 @@ use Rattle.std.proofs.Common.{◌≡◌, ℕ, ◌≤◌, Bool, true, false, ◌&
 use Rattle.std.proofs.lemmas.Bool.{le-leb, and_parts}
 use Rattle.byte_ends.specs.Ends.{IsAtEnd}
 use Rattle.byte_ends.specs.Changes.{Change, IsUntouched}
-use Rattle.foresight_where.specs.declared.asking.Form.{Form}
+use Rattle.refusal_advice.specs.declared.explaining.Form.{Form}
 use Rattle.foresight_where.specs.declared.ending.Ending.{Ending}
 use Rattle.foresight_where.specs.Endings.{most}
 use Rattle.foresight_where.specs.Reading.{HasRead}

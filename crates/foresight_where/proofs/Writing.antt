@@ -8,8 +8,8 @@ use Rattle.refusal_advice.specs.Json.{IsJson}
 use Rattle.refusal_advice.specs.Told.{IsTold}
 use Rattle.foresight_where.specs.Chosen.{back_of, front_of, refusal_line}
 use Rattle.foresight_where.specs.Endings.{null_line}
-use Rattle.foresight_where.specs.declared.asking.Form.{Form}
-use Rattle.foresight_where.specs.declared.asking.Form.TheVariants as form
+use Rattle.refusal_advice.specs.declared.explaining.Form.{Form}
+use Rattle.refusal_advice.specs.declared.explaining.Form.TheVariants as form
 use Rattle.foresight_where.specs.declared.ending.Ending.{Ending}
 use Rattle.foresight_where.specs.declared.ending.Ending.TheVariants.{Reported, HandedOn, WriteFault}
 use Rattle.foresight_where.specs.Showing.{IsTextOf, Shows, Writes, has_begun_writing, is_shown, placed}

@@ -2,23 +2,27 @@
 use Rattle.std.specs.Prelude.{◌≡◌, ◌≢◌, ◌+◌, ◌⊎◌, ℕ, Bool, true, false, ◌&&◌, nat_lt, nat_le, if◌then◌else◌, List, [], ◌∷◌, length, Option, Some, IfSome, codes}
 use Rattle.std.specs.Str.{bytes_eq}
 use Rattle.byte_ends.specs.Ends.{IsAtEnd, ConsumedAtMost}
-use Rattle.refusal_advice.specs.Told.{Either}
-use Rattle.refusal_places.specs.Answers.{answer, names_place, said_of}
+use Rattle.refusal_places.specs.Answers.{answer, needs_file, said_of}
 use Rattle.refusal_places.specs.RuleTable.{rules_text}
 use Rattle.byte_ends.specs.Changes.{Change, Failed, HasNotFailed, IsUntouched, WroteAll, WrotePrefix}
-use Rattle.foresight_where.specs.declared.asking.Form.{Form}
-use Rattle.foresight_where.specs.declared.asking.Form.TheVariants as form
+use Rattle.refusal_advice.specs.declared.explaining.Form.{Form}
+use Rattle.refusal_advice.specs.declared.explaining.Form.TheVariants as form
 use Rattle.foresight_where.specs.declared.ending.Ending.{Ending}
 use Rattle.foresight_where.specs.declared.ending.Ending.TheVariants.{Reported, Usage, NoMemory, ReadFault, TooLarge, WriteFault}
 use Rattle.foresight_where.specs.Chosen.{refusal_line}
 use Rattle.foresight_where.specs.Endings.{line_of, most, version_line}
 use Rattle.foresight_where.specs.Showing.{IsTextOf, Written, has_begun_writing, has_written, placed}
 
+-- where the test holds, the first, else the second
+abbrev pub Either : Bool → Type 0 → Type 0 → Type 0
+Either true A B = A
+Either false A B = B
+
 -- ---- what is due
 
--- whether the first refusal of this input names a place
+-- whether what is told of the first refusal of this input depends on the file
 abbrev pub asks_for_file : List ℕ → Bool
-asks_for_file input = names_place (said_of (refusal_line input))
+asks_for_file input = needs_file (said_of (refusal_line input))
 
 -- whether the file is read for this input, which isn't too long
 abbrev pub is_looked_at : List ℕ → Bool
@@ -68,7 +72,7 @@ pub record PlacesIn {F O : Type 0} (f : Form) (name input : List ℕ) (files : C
   pub read_fault : e ≡ ReadFault → Failed files
   pub read_well : e ≢ ReadFault → HasNotFailed files
   pub written : Written out e
-  -- The file is opened only where the first refusal names a place, and is read to its end.
+  -- The file is opened only where the first refusal needs it, and is read to its end.
   pub unopened : asks_for_file input ≡ false → IsUntouched files
   pub file_end : asks_for_file input ≡ true → has_begun_writing e ≡ true
       → IsAtEnd file (files.bytes files.new)
@@ -89,7 +93,7 @@ pub record Places {I F O : Type 0} (f : Form) (name : List ℕ) (source : Change
   -- The input is read to its end, or up to the first byte that is too many; never further.
   pub end : has_begun_writing e ≡ true → IsAtEnd (source.bytes source.old) (source.bytes source.new)
   pub lost : ConsumedAtMost (source.bytes source.old) (source.bytes source.new) (most + 1)
-  -- The file is opened only where the first refusal names a place, and is read to its end.
+  -- The file is opened only where the first refusal needs it, and is read to its end.
   pub unopened : IfSome (source.bytes source.old)
       (λ input. is_looked_at input ≡ false → IsUntouched files)
   pub file_end : IfSome (source.bytes source.old)

@@ -1,13 +1,6 @@
 // What the program is asked to tell.
 
-/// The form in which a refusal is told of.
-#[derive(Clone, Copy, Debug, PartialEq, Eq)]
-pub(crate) enum Form {
-    /// The text of its place within the input's other lines.
-    Text,
-    /// One JSON text, without the input's other lines.
-    Json,
-}
+use refusal_advice::Form;
 
 /// The form, and the name of the file that was refused.
 #[derive(Clone, Copy, Debug)]

@@ -3,18 +3,18 @@
 ghost use Rattle.std.specs.Prelude.{◌≡◌, ◌≢◌, ◌++◌, ◌≤◌, List, ℕ, length};
 ghost use Rattle.byte_ends.specs.Changes.{change};
 ghost use Rattle.refusal_places.specs.RuleTable.{rules_text};
-ghost use Rattle.foresight_where.specs.declared.asking.Form.TheVariants as form;
+ghost use Rattle.refusal_advice.specs.declared.explaining.Form.TheVariants as form;
 ghost use Rattle.foresight_where.specs.declared.ending.Ending.TheVariants.{NoMemory, Reported};
 ghost use Rattle.foresight_where.specs.Chosen.{back_of, front_of, refusal_line};
 ghost use Rattle.foresight_where.specs.Endings.{most, version_line};
 ghost use Rattle.foresight_where.specs.Runs.{Prints};
 ghost use Rattle.foresight_where.specs.Showing.{Shows, Writes};
 
-use crate::asking::{Asked, Form};
+use crate::asking::Asked;
 use crate::choosing::Cut;
 use crate::ending::Ending;
 use byte_ends::{Sink, write_all};
-use refusal_advice::{told, told_json};
+use refusal_advice::{Form, explain};
 use refusal_places::rules_text;
 use std::alloc::Global;
 
@@ -49,7 +49,7 @@ fn show_json<O: Sink>(alloc: Global, name: &str, file: &[u8], line: &[u8], out: 
     ensures { (input : List ℕ) → line.now ≡ refusal_line input
         → Shows form.Json name.now input file.now (change O.held O.faults out.old out.new) result }
 {
-    match told_json(alloc, name, file, line) {
+    match explain(alloc, Form::Json, name, file, line) {
         Ok(Some(text)) => written(out, &text, Ending::Reported),
         Ok(None) => written(out, b"null\n", Ending::HandedOn),
         Err(_) => Ending::NoMemory,
@@ -75,7 +75,7 @@ fn show_text<O: Sink>(
     ensures { Shows form.Text name.now input.now file.now
         (change O.held O.faults out.old out.new) result }
 {
-    match told(alloc, name, file, cut.line) {
+    match explain(alloc, Form::Text, name, file, cut.line) {
         Ok(Some(text)) => write_within(out, cut.front, &text, cut.back),
         Ok(None) => written(out, input, Ending::HandedOn),
         Err(_) => Ending::NoMemory,

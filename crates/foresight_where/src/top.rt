@@ -5,21 +5,22 @@ ghost use Rattle.byte_ends.specs.Changes.{change};
 ghost use Rattle.foresight_where.specs.Endings.{most};
 ghost use Rattle.foresight_where.specs.Runs.{EndsWithLine, Runs, RunsAlone, RunsBefore, Places, PlacesIn};
 
-use crate::asking::{Asked, Form};
+use crate::asking::Asked;
 use crate::choosing::cut_input;
 use crate::ending::Ending;
 use crate::reading::{read_bytes, read_file};
 use crate::showing::{show, show_rules, show_version};
 use byte_ends::{Sink, Source, write_all};
-use refusal_places::names_place;
+use refusal_advice::Form;
+use refusal_places::needs_file;
 use standard_streams::OpensFiles;
 use std::alloc::Global;
 
 /// All that the program does: `words` are those after the program's name. It reads an input from
-/// `source` and, where its first refusal names a place, the file with the name that is the last
-/// word; it writes the input to `out`, with what is told of that refusal in place of its line, or
-/// as it is, or what is told of it as JSON, or the table of rules or the version, and one line to
-/// `err` where none of these is written. Its promises stand by name in `specs/Runs.antt`.
+/// `source` and, where its first refusal needs it, the file with the name that is the last word; it
+/// writes the input to `out`, with what is told of that refusal in place of its line, or as it is,
+/// or what is told of it as JSON, or the table of rules or the version, and one line to `err` where
+/// none of these is written. Its promises stand by name in `specs/Runs.antt`.
 pub(crate) fn run<I: Source, F: OpensFiles, O: Sink, E: Sink>(
     alloc: Global,
     words: &[String],
@@ -125,7 +126,7 @@ fn place<I: Source, F: OpensFiles, O: Sink>(
 }
 
 // Shows the place in the file with this name that the first refusal among these bytes names. The
-// file is read only where that names one.
+// file is read only where that needs it.
 fn place_in<F: OpensFiles, O: Sink>(
     alloc: Global,
     asked: Asked<'_>,
@@ -139,7 +140,7 @@ fn place_in<F: OpensFiles, O: Sink>(
         (change O.held O.faults out.old out.new) result }
 {
     let cut = cut_input(input);
-    if !names_place(cut.line) {
+    if !needs_file(cut.line) {
         return show(alloc, asked, &[], input, &cut, out);
     }
     match read_file(alloc, asked.name, files) {

@@ -1,13 +1,13 @@
 -- What is told of a place is what is advised there.
-use Rattle.std.proofs.Common.{◌≡◌, ℕ, List, [], Option, Some, None, Result, Ok, Err, IfOk, ap, subst, ◌∙◌, inl, inr}
+use Rattle.std.proofs.Common.{◌≡◌, ℕ, List, [], map, string_bytes, Option, Some, None, Result, Ok, Err, IfOk, String, Global, subst, inl, inr}
 use Rattle.std.specs.Prelude.{Vec}
-use Rattle.refusal_advice.specs.Advice.{IsAdvice, advice_text}
+use Rattle.refusal_advice.specs.Advice.{IsAdvice, IsStopAdvice}
 use Rattle.refusal_advice.specs.Following.{IsStop, IsStopAt}
-use Rattle.rule_advice.specs.Token.{IsTokenAt}
+use Rattle.refusal_advice.specs.Token.{IsTokenAt}
 use Rattle.refusal_advice.specs.declared.stop.Stop.{Stop}
 
-pub advised : {E Z : Type 0} (source : List ℕ) (at : ℕ) (s : Stop) (token : List ℕ) (r : Result (Vec ℕ Z) E) → IsStop source at s → IsTokenAt source at token → IfOk r (λ text. text.items ≡ advice_text s.last s.word.sort token s.wanted.items) → IfOk r (λ text. IsAdvice source at text.items)
-advised source at s token (Ok text) stop is e = inl (record {
+pub advised : {E Z : Type 0} (source : List ℕ) (at : ℕ) (s : Stop) (token : List ℕ) (r : Result (Vec (String Global) Z) E) → IsStop source at s → IsTokenAt source at token → IfOk r (λ lines. IsStopAdvice s token (map string_bytes lines.items)) → IfOk r (λ lines. IsAdvice source at (map string_bytes lines.items))
+advised source at s token (Ok lines) stop is e = inl (record {
   before = stop.before;
   word = s.word;
   token = token;
@@ -15,12 +15,12 @@ advised source at s token (Ok text) stop is e = inl (record {
   stands = stop.stands;
   token_is = is;
   exact = stop.wanted;
-  text_is = e ∙ ap (λ l. advice_text l s.word.sort token s.wanted.items) stop.last;
+  begins = e;
 })
 advised source at s token (Err x) stop is e = tt
 
-pub unadvised : (source : List ℕ) (at : ℕ) (text : List ℕ) → IsStopAt source at None → text ≡ [] → IsAdvice source at text
-unadvised source at text none e = inr (none, e)
+pub unadvised : (source : List ℕ) (at : ℕ) (lines : List (List ℕ)) → IsStopAt source at None → lines ≡ [] → IsAdvice source at lines
+unadvised source at lines none e = inr (none, e)
 
 pub stopped : (source : List ℕ) (at : ℕ) (o : Option Stop) (s : Stop) → IsStopAt source at o → o ≡ Some s → IsStop source at s
 stopped source at o s h e = let P : Option Stop → Type 0 = IsStopAt source at in subst P e h

@@ -1,8 +1,10 @@
+pub mod AdviceLines
 pub mod Advised
 pub mod ClassWords
 pub mod Faults
 pub mod Following
 pub mod Kept
+pub mod Mapped
 pub mod Objects
 pub mod Stopping
 pub mod Telling

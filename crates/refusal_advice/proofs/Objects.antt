@@ -1,23 +1,20 @@
 -- The JSON of a refusal has no fraction, so its text is known; and it has a place where its text has.
-use Rattle.std.proofs.Common.{rules, ◌≡◌, ℕ, String, string_bytes, Global, Bool, true, false, ◌||◌, if◌then◌else◌, List, [], ◌∷◌, ◌++◌, drop, map, Option, Some, None, IsUtf8, length, append_assoc, append-nil, refl, sym, ap, ◌∙◌, subst}
+use Rattle.std.proofs.Common.{rules, ◌≡◌, ℕ, zero, suc, ◌+◌, ◌<◌, ◌≤◌, String, string_bytes, Global, Bool, false, ◌||◌, List, [], ◌∷◌, ◌++◌, get_or, take, map, Option, Some, None, length, refl, sym, ap, ◌∙◌, subst, arith}
+use Rattle.std.proofs.lemmas.List.{take_all}
 use Rattle.std.proofs.lemmas.List.{map_push}
-use Rattle.std.proofs.lemmas.Str.{is_utf8-from_IsUtf8, IsUtf8-from_is_utf8}
 use Rattle.std.specs.Prelude.{Vec}
-use Rattle.std.specs.Str.{is_utf8}
-use Rattle.serde_json.specs.Data.{Data, null, string}
+use Rattle.serde_json.specs.Data.{Data, string}
 use Rattle.serde_json.specs.View.{items_of, view}
 use Rattle.serde_json.specs.Written.{has_float, items_have_float}
 use Rattle.serde_json.specs.declared.value.Value.{Value, the_lemmas}
 use Rattle.serde_json.specs.declared.value.Value.TheVariants as value
-use Rattle.text_lines.specs.Text.{lines}
-use Rattle.text_lines.proofs.TextLemmas.{none_left}
 use Rattle.refusal_places.specs.declared.refusal.Place.{Place}
 use Rattle.refusal_places.specs.declared.refusal.Place.TheVariants.{Nowhere, Byte, Counted, Line}
 use Rattle.refusal_places.specs.Answers.{answer, answer_by, said_of}
-use Rattle.refusal_places.specs.PlaceText.{caret_text, counted, head_line, line_text, text_at}
+use Rattle.refusal_places.specs.PlaceText.{caret_text, counted, line_text, text_at}
 use Rattle.refusal_places.specs.Refusals.{Said}
 use Rattle.refusal_places.specs.Spots.{Spot, byte_spot, line_spot}
-use Rattle.refusal_advice.specs.Json.{IsJson, IsJsonBy, IsJsonIn, IsJsonOf, IsJsonTo, count_value, json_text, line_value, numbers_of, refusal_value, spot_numbers, text_value}
+use Rattle.refusal_advice.specs.Json.{IsJsonBy, IsJsonIn, IsJsonOf, IsJsonTo, count_value, json_text, line_value, numbers_of, refusal_value, spot_numbers}
 use Rattle.refusal_advice.specs.Told.{IsAdviceFor}
 use Rattle.refusal_advice.specs.declared.json.Numbers.{Numbers}
 
@@ -27,22 +24,18 @@ of_count : (o : Option ℕ) → has_float (count_value o) ≡ false
 of_count None = refl
 of_count (Some n) = refl
 
-of_text : (b : Bool) (bytes : List ℕ) → has_float (if b then string bytes else null) ≡ false
-of_text true bytes = refl
-of_text false bytes = refl
-
 of_lines : (ls : List (List ℕ)) → items_have_float (items_of (map line_value ls)) ≡ false
 of_lines [] = refl
-of_lines (l ∷ ls) = ap (λ (b : Bool). b || items_have_float (items_of (map line_value ls))) (of_text (is_utf8 (drop 2 l)) (drop 2 l)) ∙ of_lines ls
+of_lines (l ∷ ls) = of_lines ls
 
-of_value : (name : List ℕ) (r : Said) (place : Numbers) (advice : List ℕ) → has_float (refusal_value name r place advice) ≡ false
+of_value : (name : List ℕ) (r : Said) (place : Numbers) (advice : List (List ℕ)) → has_float (refusal_value name r place advice) ≡ false
 of_value name r place advice =
-    ap (λ (b : Bool). b || (has_float (count_value place.column) || (has_float (count_value place.line) || false))) (of_lines (lines advice))
+    ap (λ (b : Bool). b || (has_float (count_value place.column) || (has_float (count_value place.line) || false))) (of_lines advice)
     ∙ ap (λ (b : Bool). b || (has_float (count_value place.line) || false)) (of_count place.column)
     ∙ ap (λ (b : Bool). b || false) (of_count place.line)
 
 -- the text of the value of a refusal that has this place
-pub json_of : (name file : List ℕ) (r : Said) (place : Numbers) (advice text : List ℕ) (d : Data) → numbers_of file r.place ≡ Some place → IsAdviceFor file r advice → d ≡ refusal_value name r place advice → (has_float d ≡ false → text ≡ json_text d) → IsJsonOf name file r text
+pub json_of : (name file : List ℕ) (r : Said) (place : Numbers) (advice : List (List ℕ)) (text : List ℕ) (d : Data) → numbers_of file r.place ≡ Some place → IsAdviceFor file r advice → d ≡ refusal_value name r place advice → (has_float d ≡ false → text ≡ json_text d) → IsJsonOf name file r text
 json_of name file r place advice text d placed advised is written = record {
   place = place;
   advice = advice;
@@ -56,33 +49,26 @@ json_of name file r place advice text d placed advised is written = record {
 pub view_string : (t : String Global) → view (value.String t) ≡ string (string_bytes t)
 view_string t = search (rules, the_lemmas)
 
-pub view_null : view value.Null ≡ null
-view_null = search (rules, the_lemmas)
-
-pub text_is : (bytes : List ℕ) (d : Data) → IsUtf8 bytes → d ≡ string bytes → d ≡ text_value bytes
-text_is bytes d u e = e ∙ sym (ap (λ (b : Bool). if b then string bytes else null) (is_utf8-from_IsUtf8 bytes u))
-
-pub none_is : (bytes : List ℕ) → (IsUtf8 bytes → ⊥) → null ≡ text_value bytes
-none_is bytes u = by (is_utf8 bytes) refl
-  where
-    by : (b : Bool) → is_utf8 bytes ≡ b → null ≡ text_value bytes
-    by true k = absurd (u (IsUtf8-from_is_utf8 bytes k))
-    by false k = sym (ap (λ (b : Bool). if b then string bytes else null) k)
-
 -- ---- one line more
 
-pub values_more : (old new : List Value) (v : Value) (rest line next : List ℕ) (all : List Data) → new ≡ old ++ v ∷ [] → view v ≡ line_value line → lines rest ≡ line ∷ lines next
-    → map view old ++ map line_value (lines rest) ≡ all → map view new ++ map line_value (lines next) ≡ all
-values_more old new v rest line next all pushed of cut so_far =
-    ap (λ (z : List Data). z ++ map line_value (lines next)) (ap (λ (z : List Value). map view z) pushed ∙ map_push view old v ∙ ap (λ (d : Data). map view old ++ d ∷ []) of)
-    ∙ append_assoc (map view old) (line_value line ∷ []) (map line_value (lines next))
-    ∙ ap (λ (z : List Data). map view old ++ z) (sym (ap (λ (ls : List (List ℕ)). map line_value ls) cut))
-    ∙ so_far
+pub values_more : (old new : List Value) (v : Value) (ls : List (String Global)) (i : ℕ) (d : String Global) → i < length ls → new ≡ old ++ v ∷ [] → view v ≡ line_value (string_bytes (get_or ls i d))
+    → map view old ≡ map line_value (map string_bytes (take i ls)) → map view new ≡ map line_value (map string_bytes (take (i + 1) ls))
+values_more old new v ls i d h pushed is so_far =
+    ap (λ (z : List Value). map view z) pushed ∙ map_push view old v
+    ∙ ap (λ (x : Data). map view old ++ x ∷ []) is
+    ∙ ap (λ (z : List Data). z ++ line_value (string_bytes (get_or ls i d)) ∷ []) so_far
+    ∙ sym (taken ls i h)
+  where
+    taken : (ls : List (String Global)) (i : ℕ) → i < length ls → map line_value (map string_bytes (take (i + 1) ls)) ≡ map line_value (map string_bytes (take i ls)) ++ line_value (string_bytes (get_or ls i d)) ∷ []
+    taken [] i h = absurd (omega (arith, h))
+    taken (l ∷ ls) zero h = refl
+    taken (l ∷ ls) (suc i) h =
+        let e : suc i + 1 ≡ suc (i + 1) = omega arith in
+        ap (λ n. map line_value (map string_bytes (take n (l ∷ ls)))) e
+        ∙ ap (λ z. line_value (string_bytes l) ∷ z) (taken ls i (omega (arith, h)))
 
--- no line is left
-pub all_told : (values : List Value) (rest : List ℕ) (all : List Data) → length rest ≡ 0 → map view values ++ map line_value (lines rest) ≡ all → map view values ≡ all
-all_told values rest all none so_far =
-    sym (append-nil (map view values)) ∙ ap (λ (ls : List (List ℕ)). map view values ++ map line_value ls) (sym (none_left rest none)) ∙ so_far
+pub values_all : (ls : List (String Global)) (i : ℕ) → length ls ≤ i → map line_value (map string_bytes (take i ls)) ≡ map line_value (map string_bytes ls)
+values_all ls i h = ap (λ (z : List (String Global)). map line_value (map string_bytes z)) (take_all i ls h)
 
 -- ---- the place
 

@@ -1,45 +1,37 @@
 -- What is told of a refusal, by what its file is.
-use Rattle.std.proofs.Common.{◌≡◌, ◌≤◌, ℕ, Bool, true, false, ◌&&◌, nat_le, List, [], length, Some, None, Result, Ok, Err, IfOk, IsUtf8, refl, sym, ap, ◌∙◌, subst, arith}
+use Rattle.std.proofs.Common.{◌≡◌, ◌<◌, ℕ, Bool, true, false, nat_le, List, [], length, Some, None, IsUtf8, sym, ◌∙◌, subst, arith}
 use Rattle.std.specs.Str.{is_utf8}
+use Rattle.std.proofs.lemmas.Bool.{and_parts}
 use Rattle.std.proofs.lemmas.Bool.Decides.{nat_tests}
-use Rattle.std.proofs.lemmas.Str.{is_utf8-from_IsUtf8, IsUtf8-from_is_utf8}
+use Rattle.std.proofs.lemmas.Str.{IsUtf8-from_is_utf8}
 use Rattle.session_values.specs.Limits.{max_input}
 use Rattle.refusal_places.specs.Answers.{said_of}
 use Rattle.refusal_places.specs.Refusals.{Said}
-use Rattle.refusal_advice.specs.Told.{Either, IsAdviceIn, IsAdviceBy, IsAdviceTo, handlers_of, is_readable}
+use Rattle.refusal_advice.specs.Advice.{IsAdvice}
+use Rattle.refusal_advice.specs.Told.{IsAdviceFor, IsAdviceIn, IsAdviceTo, byte_of, handlers_of, is_of_grammar}
 
-fits : (n : ℕ) → n ≤ max_input → nat_le n max_input ≡ true
-fits n h = grind (arith, nat_tests, h)
+too_long : (n : ℕ) → max_input < n → nat_le n max_input ≡ true → ⊥
+too_long n h e = grind (arith, nat_tests, h, e)
 
-readable : (file : List ℕ) → length file ≤ max_input → IsUtf8 file → is_readable file ≡ true
-readable file h u = ap (λ b. b && is_utf8 file) (fits (length file) h) ∙ is_utf8-from_IsUtf8 file u
+-- a file that is too long, and one that is no text
+pub of_long : (file : List ℕ) (r : Said) (lines : List (List ℕ)) → max_input < length file → IsAdviceFor file r lines
+of_long file r lines h = λ x. absurd (too_long (length file) h (and_parts (nat_le (length file) max_input) (is_utf8 file) x).0)
 
-pub of_text : (t : List ℕ) (file : List ℕ) (at : ℕ) (part text advice : List ℕ) → length file ≤ max_input → IsUtf8 file → text ≡ file → part ≡ handlers_of text → IsAdviceBy t part text at advice → IsAdviceIn t file at advice
-of_text t file at part text advice h u s e a =
-    let A = IsAdviceBy t (handlers_of file) file at advice in
-    let b : IsAdviceBy t (handlers_of text) text at advice = subst (λ p. IsAdviceBy t p text at advice) e a in
-    subst (λ b. Either b A (advice ≡ [])) (sym (readable file h u)) (subst (λ l. IsAdviceBy t (handlers_of l) l at advice) s b)
+pub of_other : (file : List ℕ) (r : Said) (lines : List (List ℕ)) → (IsUtf8 file → ⊥) → IsAdviceFor file r lines
+of_other file r lines u = λ x. absurd (u (IsUtf8-from_is_utf8 file (and_parts (nat_le (length file) max_input) (is_utf8 file) x).1))
 
-pub of_other : (t : List ℕ) (file : List ℕ) (at : ℕ) (advice : List ℕ) → (IsUtf8 file → ⊥) → advice ≡ [] → IsAdviceIn t file at advice
-of_other t file at advice u e = by (is_utf8 file) refl
-  where
-    by : (b : Bool) → is_utf8 file ≡ b → Either (nat_le (length file) max_input && is_utf8 file) (IsAdviceBy t (handlers_of file) file at advice) (advice ≡ [])
-    by true k = absurd (u (IsUtf8-from_is_utf8 file k))
-    by false k = subst (λ b. Either b (IsAdviceBy t (handlers_of file) file at advice) (advice ≡ [])) (sym (ap (λ b. nat_le (length file) max_input && b) k ∙ none (nat_le (length file) max_input))) e
-      where
-        none : (c : Bool) → (c && false) ≡ false
-        none true = refl
-        none false = refl
+pub of_text : (file text : List ℕ) (r : Said) (lines : List (List ℕ)) → text ≡ file → IsAdviceIn text r lines → IsAdviceFor file r lines
+of_text file text r lines e h = λ x. subst (λ t. IsAdviceIn t r lines) e h
 
-pub to_none : (file input advice : List ℕ) → said_of input ≡ None → advice ≡ [] → IsAdviceTo file (said_of input) advice
-to_none file input advice e a = subst (λ o. IsAdviceTo file o advice) (sym e) a
+-- a rule of the grammar, and another one
+pub of_grammar : (text part : List ℕ) (r : Said) (at : ℕ) (lines : List (List ℕ)) → part ≡ handlers_of text → at ≡ byte_of r.place → IsAdvice part at lines → IsAdviceIn text r lines
+of_grammar text part r at lines e a h = λ x. subst (λ p. IsAdvice p (byte_of r.place) lines) e (subst (λ n. IsAdvice part n lines) a h)
 
-pub to_some : (file input advice : List ℕ) (r : Said) → said_of input ≡ Some r → IsAdviceTo file (Some r) advice → IsAdviceTo file (said_of input) advice
-to_some file input advice r e a = subst (λ o. IsAdviceTo file o advice) (sym e) a
+pub of_rule : (text : List ℕ) (r : Said) (lines : List (List ℕ)) (b : Bool) → b ≡ is_of_grammar r.row.word → b ≡ false → IsAdviceIn text r lines
+of_rule text r lines b e f = λ x. absurd (cc (sym f ∙ e ∙ x))
 
--- where the rule is the grammar's, and where it isn't
-pub of_grammar : (b : Bool) (A B : Type 0) → b ≡ true → A → Either b A B
-of_grammar b A B e a = subst (λ c. Either c A B) (sym e) a
+pub to_none : (file input : List ℕ) (lines : List (List ℕ)) → said_of input ≡ None → lines ≡ [] → IsAdviceTo file (said_of input) lines
+to_none file input lines e a = subst (λ o. IsAdviceTo file o lines) (sym e) a
 
-pub of_rules : (b : Bool) (A B : Type 0) → b ≡ false → B → Either b A B
-of_rules b A B e a = subst (λ c. Either c A B) (sym e) a
+pub to_some : (file input : List ℕ) (lines : List (List ℕ)) (r : Said) → said_of input ≡ Some r → IsAdviceFor file r lines → IsAdviceTo file (said_of input) lines
+to_some file input lines r e a = subst (λ o. IsAdviceTo file o lines) (sym e) a

@@ -1,23 +1,23 @@
--- What is advised at a place of a text.
-use Rattle.std.specs.Prelude.{◌≡◌, ◌⊎◌, ℕ, List, [], ◌++◌, Option}
+-- What is advised at a place of a text: line by line.
+use Rattle.std.specs.Prelude.{◌≡◌, ◌⊎◌, ℕ, List, [], ◌∷◌}
 use Rattle.syntax_grammar.specs.Words.{kind_of}
-use Rattle.syntax_grammar.specs.declared.word.Sort.{Sort}
 use Rattle.syntax_grammar.specs.declared.word.Word.{Word}
 use Rattle.syntax_grammar.specs.declared.refusals.SyntaxRefusal.{SyntaxRefusal}
 use Rattle.syntax_grammar.specs.declared.refusals.SyntaxRefusal.TheVariants.{BadByte, Unexpected, NumberTooLarge, NameTooLong, TooDeep, NoMemory}
-use Rattle.refusal_advice.specs.Following.{Stands, AreWanted, last_of}
-use Rattle.refusal_advice.specs.Hints.{hint}
-use Rattle.refusal_advice.specs.Sentence.{sentence, hint_line}
-use Rattle.rule_advice.specs.Token.{IsTokenAt}
+use Rattle.refusal_advice.specs.Following.{Stands, AreWanted}
+use Rattle.refusal_advice.specs.Sentence.{sentence}
+use Rattle.refusal_advice.specs.Token.{IsTokenAt}
 use Rattle.refusal_advice.specs.declared.class.Class.{Class}
+use Rattle.refusal_advice.specs.declared.stop.Stop.{Stop}
 
--- the text on a word behind another one, where these classes are wanted
-abbrev pub advice_text : Option Sort → Sort → List ℕ → List Class → List ℕ
-advice_text last found token wanted =
-    sentence (kind_of found) token wanted ++ hint_line (hint last found token wanted)
+-- The first line is this one; behind it stands help, of which nothing is said.
+pub record BeginsWith (first : List ℕ) (lines : List (List ℕ)) : Type 0 where
+  pub help : List (List ℕ)
+  pub lines_are : lines ≡ first ∷ help
 
--- the text on the word that stands at this place, which names all classes that can follow there
-pub record IsAdvised (source : List ℕ) (at : ℕ) (advice : List ℕ) : Type 0 where
+-- the first line on the word that stands at this place names all classes that can follow there, and
+-- no other
+pub record IsAdvised (source : List ℕ) (at : ℕ) (lines : List (List ℕ)) : Type 0 where
   pub before : List Word
   pub word : Word
   pub token : List ℕ
@@ -25,15 +25,19 @@ pub record IsAdvised (source : List ℕ) (at : ℕ) (advice : List ℕ) : Type 0
   pub stands : Stands source at before word
   pub token_is : IsTokenAt source at token
   pub exact : AreWanted before wanted
-  pub text_is : advice ≡ advice_text (last_of before) word.sort token wanted
+  pub begins : BeginsWith (sentence (kind_of word.sort) token wanted) lines
 
 -- no word stands at this place behind words that begin a text of the grammar
 abbrev pub NoneStands : List ℕ → ℕ → Type 0
 NoneStands source at = (before : List Word) (w : Word) → Stands source at before w → ⊥
 
 -- what is advised: nothing exactly where no word stands there
-abbrev pub IsAdvice : List ℕ → ℕ → List ℕ → Type 0
-IsAdvice source at advice = IsAdvised source at advice ⊎ (NoneStands source at × (advice ≡ []))
+abbrev pub IsAdvice : List ℕ → ℕ → List (List ℕ) → Type 0
+IsAdvice source at lines = IsAdvised source at lines ⊎ (NoneStands source at × (lines ≡ []))
+
+-- the lines on what the code found
+abbrev pub IsStopAdvice : Stop → List ℕ → List (List ℕ) → Type 0
+IsStopAdvice s token lines = BeginsWith (sentence (kind_of s.word.sort) token s.wanted.items) lines
 
 -- the place of a fault; want of memory has none
 abbrev pub fault_place : SyntaxRefusal → ℕ

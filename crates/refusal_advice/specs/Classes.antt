@@ -77,34 +77,6 @@ classes = class.Table ∷ class.Handler ∷ class.Name ∷ class.Symbol ∷ clas
     ∷ class.LeftParen ∷ class.RightParen ∷ class.LeftBrace ∷ class.RightBrace ∷ class.Comma
     ∷ class.Semicolon ∷ class.End ∷ []
 
--- its place among them, from 0
-abbrev pub number_of : Class → ℕ
-number_of class.Table = 0
-number_of class.Handler = 1
-number_of class.Name = 2
-number_of class.Symbol = 3
-number_of class.Number = 4
-number_of class.Nil = 5
-number_of class.Operation = 6
-number_of class.Let = 7
-number_of class.If = 8
-number_of class.Repeat = 9
-number_of class.Reply = 10
-number_of class.Else = 11
-number_of class.As = 12
-number_of class.Assign = 13
-number_of class.Comparison = 14
-number_of class.Times = 15
-number_of class.Plus = 16
-number_of class.Minus = 17
-number_of class.LeftParen = 18
-number_of class.RightParen = 19
-number_of class.LeftBrace = 20
-number_of class.RightBrace = 21
-number_of class.Comma = 22
-number_of class.Semicolon = 23
-number_of class.End = 24
-
 -- how a sentence names a class
 abbrev pub text_of : Class → List ℕ
 text_of class.Table = codes "`map`, `set`"

@@ -1,18 +1,19 @@
 -- The JSON that tells of a refusal: one object with what the text tells. A value's text, with the
 -- escapes of JSON, is the kit's `compact_text`.
-use Rattle.std.specs.Prelude.{◌≡◌, ℕ, if◌then◌else◌, List, [], ◌∷◌, ◌++◌, map, drop, Option, Some, None, Vec, codes}
-use Rattle.std.specs.Str.{is_utf8}
+use Rattle.std.specs.Prelude.{◌≡◌, ℕ, List, [], ◌∷◌, ◌++◌, map, Option, Some, None, Vec, codes}
 use Rattle.serde_json.specs.Data.{Data, null, number, unsigned, string, array, object, member, no_members}
 use Rattle.serde_json.specs.View.{items_of}
 use Rattle.serde_json.specs.Written.{compact_text}
-use Rattle.text_lines.specs.Text.{Text, lines}
+use Rattle.text_lines.specs.Text.{Text}
 use Rattle.refusal_places.specs.declared.refusal.Place.{Place}
 use Rattle.refusal_places.specs.declared.refusal.Place.TheVariants.{Nowhere, Byte, Counted, Line}
 use Rattle.refusal_places.specs.Answers.{answer, said_of}
 use Rattle.refusal_places.specs.PlaceText.{counted}
 use Rattle.refusal_places.specs.Refusals.{Said}
 use Rattle.refusal_places.specs.Spots.{Spot, byte_spot, column_of, line_spot}
-use Rattle.refusal_advice.specs.Told.{IsAdviceFor}
+use Rattle.refusal_advice.specs.Told.{IsAdviceFor, IsToldTo, first_line}
+use Rattle.refusal_advice.specs.declared.explaining.Form.{Form}
+use Rattle.refusal_advice.specs.declared.explaining.Form.TheVariants as form
 use Rattle.refusal_advice.specs.declared.json.Numbers.{Numbers}
 
 -- a count; null where there is none
@@ -20,17 +21,13 @@ abbrev pub count_value : Option ℕ → Data
 count_value None = null
 count_value (Some n) = number (unsigned n)
 
--- a text; null where the bytes are none
-abbrev pub text_value : Text → Data
-text_value bytes = if is_utf8 bytes then string bytes else null
-
--- a line of an advice without the `= ` before it
+-- a line of advice
 abbrev pub line_value : Text → Data
-line_value line = text_value (drop 2 line)
+line_value line = string (first_line line)
 
--- all lines of an advice
-abbrev pub advice_value : Text → Data
-advice_value advice = array (items_of (map line_value (lines advice)))
+-- all of them
+abbrev pub advice_value : List Text → Data
+advice_value advice = array (items_of (map line_value advice))
 
 -- ---- the place
 
@@ -69,7 +66,7 @@ object_of advice place file rule sentence = object (
     member (codes "sentence") (string sentence) no_members))))))
 
 -- that of a refusal in a file with this name
-abbrev pub refusal_value : Text → Said → Numbers → Text → Data
+abbrev pub refusal_value : Text → Said → Numbers → List Text → Data
 refusal_value name r place advice = object_of (advice_value advice) place name r.row.word
     (counted r.row.sentence (count_of r.place))
 
@@ -80,7 +77,7 @@ json_text d = compact_text d ++ 10 ∷ []
 -- the JSON on a refusal in a file with this name, whose place the file has
 pub record IsJsonOf (name file : Text) (r : Said) (text : Text) : Type 0 where
   pub place : Numbers
-  pub advice : Text
+  pub advice : List Text
   pub placed : numbers_of file r.place ≡ Some place
   pub advised : IsAdviceFor file r advice
   pub text_is : text ≡ json_text (refusal_value name r place advice)
@@ -100,6 +97,11 @@ pub record IsJson (name file input text : Text) : Type 0 where
 abbrev pub IsJsonTo : {Z : Type 0} → Text → Text → Text → Option (Vec ℕ Z) → Type 0
 IsJsonTo name file input None = answer name file input ≡ None
 IsJsonTo name file input (Some text) = IsJson name file input text.items
+
+-- what is told to an input in this form
+abbrev pub IsExplained : {Z : Type 0} → Form → Text → Text → Text → Option (Vec ℕ Z) → Type 0
+IsExplained form.Text name file input text = IsToldTo name file input text
+IsExplained form.Json name file input text = IsJsonTo name file input text
 
 -- ---- what the code finds
 

@@ -1,9 +1,9 @@
 pub mod Advice
 pub mod Classes
 pub mod Following
-pub mod Hints
 pub mod Json
 pub mod Parts
 pub mod Sentence
 pub mod Told
+pub mod Token
 pub mod Walk

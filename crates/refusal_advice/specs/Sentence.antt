@@ -1,4 +1,4 @@
--- The sentence: what was found, what is wanted there, and the language's other way.
+-- The sentence: what was found, and what is wanted there.
 use Rattle.std.specs.Prelude.{ℕ, Bool, true, false, if◌then◌else◌, List, [], ◌∷◌, ◌++◌, codes}
 use Rattle.syntax_grammar.specs.declared.token_kind.TokenKind.{TokenKind}
 use Rattle.syntax_grammar.specs.declared.token_kind.TokenKind.TheVariants as kind
@@ -48,10 +48,5 @@ wanted_text (c ∷ cs) = text_of c ++ more_text cs
 
 abbrev pub sentence : TokenKind → List ℕ → List Class → List ℕ
 sentence k token wanted =
-    codes "= unexpected " ++ found_text k token ++ codes ": " ++ wanted_text wanted
-    ++ (codes " is wanted here" ++ 10 ∷ [])
-
--- a line for a hint, if there is one
-abbrev pub hint_line : List ℕ → List ℕ
-hint_line [] = []
-hint_line (b ∷ bs) = codes "= " ++ b ∷ bs ++ 10 ∷ []
+    codes "unexpected " ++ found_text k token ++ codes ": " ++ wanted_text wanted
+    ++ codes " is wanted here"

@@ -70,39 +70,6 @@ impl Class {
         Class::End,
     ];
 
-    /// Its place among all classes, from 0.
-    pub(crate) fn number(self) -> u32
-        ensures { result ≡ spec.number_of self }
-    {
-        match self {
-            Class::Table => 0,
-            Class::Handler => 1,
-            Class::Name => 2,
-            Class::Symbol => 3,
-            Class::Number => 4,
-            Class::Nil => 5,
-            Class::Operation => 6,
-            Class::Let => 7,
-            Class::If => 8,
-            Class::Repeat => 9,
-            Class::Reply => 10,
-            Class::Else => 11,
-            Class::As => 12,
-            Class::Assign => 13,
-            Class::Comparison => 14,
-            Class::Times => 15,
-            Class::Plus => 16,
-            Class::Minus => 17,
-            Class::LeftParen => 18,
-            Class::RightParen => 19,
-            Class::LeftBrace => 20,
-            Class::RightBrace => 21,
-            Class::Comma => 22,
-            Class::Semicolon => 23,
-            Class::End => 24,
-        }
-    }
-
     /// A word of the class.
     pub(crate) fn word(self) -> Sort
         ensures { result ≡ spec.word_of self }

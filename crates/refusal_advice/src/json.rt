@@ -3,7 +3,6 @@
 ghost use Rattle.std.specs.Prelude.{◌≡◌, ◌<◌, ◌++◌, false, length, map, string_bytes, Some, IfOk, IfSome, OnOk};
 ghost use Rattle.serde_json.specs.View.{view};
 ghost use Rattle.serde_json.specs.Written.{has_float};
-ghost use Rattle.text_lines.specs.Text.{lines as lines_of};
 ghost use Rattle.refusal_places.specs.PlaceText.{counted};
 ghost use Rattle.refusal_places.specs.Refusals.{said};
 ghost use Rattle.refusal_places.specs.RuleTable.{row_of};
@@ -11,12 +10,12 @@ ghost use Rattle.refusal_places.specs.Spots.{spot_option};
 ghost use Rattle.refusal_advice.specs.Json as spec;
 
 use crate::advising::advice_for;
+use crate::explaining::first_line;
 use itoa::Buffer;
 use refusal_places::{Place, Refusal, Spot, byte_spot, column_of, line_spot, refusal_of};
 use serde_json::{Value, json};
 use session_values::NoMemory;
 use std::alloc::{AllocError, Global};
-use text_lines::line_len;
 
 /// A place's line and column, from 1, where it has them.
 #[derive(Clone, Copy, Debug)]
@@ -88,40 +87,24 @@ fn count_value(count: Option<u64>) -> Value
     }
 }
 
-/// A text, or null where the bytes are none.
-fn text_value(alloc: Global, bytes: &[u8]) -> Result<Value, AllocError>
-    ensures { IfOk result (λ v. view v ≡ spec.text_value bytes.now) }
-{
-    match std::str::from_utf8(bytes) {
-        Ok(text) => Ok(Value::String(String::from_str(alloc, text)?)),
-        Err(_) => Ok(Value::Null),
-    }
-}
-
-/// A line of an advice without the `= ` before it.
-fn line_value(alloc: Global, line: &[u8]) -> Result<Value, AllocError>
-    ensures { IfOk result (λ v. view v ≡ spec.line_value line.now) }
-{
-    let (_, text) = line.split_at(line.len().min(2));
-    text_value(alloc, text)
-}
-
 /// The lines of an advice.
-fn line_values(alloc: Global, advice: &[u8]) -> Result<Vec<Value>, AllocError>
+#[tactic(auto, using(crate::proofs::Objects::values_more, crate::proofs::Objects::values_all))]
+fn line_values(alloc: Global, lines: &[String]) -> Result<Vec<Value>, AllocError>
     ensures { IfOk result (λ values. map view values.items
-        ≡ map spec.line_value (lines_of advice.now)) }
+        ≡ map spec.line_value (map string_bytes lines.now)) }
 {
     let mut values = Vec::new(alloc);
-    let mut rest = advice;
-    'lines: while !rest.is_empty() {
-        let len = line_len(rest);
-        let (line, _) = rest.split_at(len);
-        // the last line needs no line feed
-        let (_, behind) = rest.split_at((len + 1).min(rest.len()));
-        values.push(line_value(alloc, line)?)?;
-        rest = behind;
+    for line in lines {
+        values.push(line_value(alloc, line.as_str())?)?;
     }
     Ok(values)
+}
+
+/// One of them.
+fn line_value(alloc: Global, line: &str) -> Result<Value, AllocError>
+    ensures { IfOk result (λ v. view v ≡ spec.line_value line.now) }
+{
+    Ok(Value::String(String::from_str(alloc, first_line(line))?))
 }
 
 /// The object with these members.
@@ -152,10 +135,10 @@ fn refusal_value(
     name: &str,
     refusal: &Refusal,
     place: Numbers,
-    advice: &[u8],
+    advice: &[String],
 ) -> Result<Value, AllocError>
     ensures { IfOk result (λ v. view v ≡ spec.refusal_value name.now
-        (said (row_of refusal.now.rule) refusal.now.place) place advice.now) }
+        (said (row_of refusal.now.rule) refusal.now.place) place (map string_bytes advice.now)) }
 {
     let sentence = counted_text(alloc, refusal.rule.sentence, count_of(refusal.place))?;
     let advice = Value::Array(line_values(alloc, advice)?);
@@ -213,9 +196,9 @@ fn refusal_json(
     }
 }
 
-/// What `told` tells of a refusal's line, as JSON: one object, and a line feed. None where the input
+/// What the text tells of a refusal's line, as JSON: one object, and a line feed. None where the input
 /// is no such line, or names a place that the file hasn't.
-pub fn told_json(
+pub(crate) fn told_json(
     alloc: Global,
     name: &str,
     file: &[u8],

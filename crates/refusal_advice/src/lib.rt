@@ -8,26 +8,31 @@
 
 mod advice;
 mod advising;
+mod around;
 mod class;
+mod explaining;
 mod expression_rows;
+mod grammar_advice;
+mod heads;
 mod hint;
 mod json;
 pub mod laws;
+mod line_advice;
+mod names;
+mod no_value;
 mod part;
 mod rows;
+mod scope;
 mod sentence;
-mod sign_hints;
 mod statement_rows;
 mod stop;
 mod taking;
-mod token_hints;
+mod token;
 mod walk;
-mod wants;
+mod word_advice;
 mod word_rows;
 
-pub use advice::advice_at;
-pub use advising::{advice_for, told};
 pub use class::Class;
-pub use json::told_json;
+pub use explaining::{Form, explain};
 pub use stop::Stop;
 pub use walk::stop_at;

@@ -9,10 +9,10 @@ ghost use Rattle.refusal_advice.specs.Parts.{parts_of};
 ghost use Rattle.refusal_advice.specs.Walk.{IsFound, IsStopIn, allows, found_in, whole, with_end};
 
 use crate::class::Class;
+use crate::names::names_for;
 use crate::part::Part;
 use crate::stop::Stop;
 use crate::taking::{may_end, take};
-use rule_advice::names_for;
 use session_values::NoMemory;
 use std::alloc::Global;
 use syntax_grammar::{Reader, Sort, Word};

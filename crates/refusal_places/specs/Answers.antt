@@ -1,6 +1,6 @@
 -- What is answered to the line of a refusal, beside the file that was refused.
-use Rattle.std.specs.Prelude.{Bool, true, false, if◌then◌else◌, Option, Some, None}
-use Rattle.std.specs.Str.{is_utf8}
+use Rattle.std.specs.Prelude.{Bool, true, false, if◌then◌else◌, Option, Some, None, codes}
+use Rattle.std.specs.Str.{bytes_eq, is_utf8}
 use Rattle.text_lines.specs.Text.{Text}
 use Rattle.refusal_places.specs.declared.refusal.Place.{Place}
 use Rattle.refusal_places.specs.declared.refusal.Place.TheVariants.{Nowhere}
@@ -11,15 +11,15 @@ use Rattle.refusal_places.specs.Refusals.{Said, refusal_of}
 abbrev pub said_of : Text → Option Said
 said_of input = if is_utf8 input then refusal_of input else None
 
--- it is a byte or a line
-abbrev pub is_somewhere : Place → Bool
-is_somewhere Nowhere = false
-is_somewhere _ = true
+-- What is told of a refusal depends on what the file holds: it names a byte or a line, or its rule
+-- is that of the missing line between handlers and requests.
+abbrev pub needs : Text → Place → Bool
+needs word Nowhere = bytes_eq word (codes "T2")
+needs word _ = true
 
--- a refusal that names a place
-abbrev pub names_place : Option Said → Bool
-names_place None = false
-names_place (Some r) = is_somewhere r.place
+abbrev pub needs_file : Option Said → Bool
+needs_file None = false
+needs_file (Some r) = needs r.row.word r.place
 
 -- the text of a refusal, if there is one
 abbrev pub answer_by : Text → Text → Option Said → Option Text

@@ -11,16 +11,17 @@ use crate::refusal::{Place, Refusal};
 use session_values::NoMemory;
 use std::alloc::Global;
 
-/// Whether the answer depends on what the file holds: the refusal names a place.
-pub fn names_place(input: &[u8]) -> bool
+/// Whether what is told depends on what the file holds: the refusal names a place, or its rule is
+/// that of the missing line between handlers and requests.
+pub fn needs_file(input: &[u8]) -> bool
     requires { length input.now < 4294967295 }
-    ensures names { result ≡ spec.names_place (spec.said_of input.now) }
+    ensures needs { result ≡ spec.needs_file (spec.said_of input.now) }
     // If it doesn't, any file will do.
     ensures any { result ≡ false → (name file other : List ℕ)
         → spec.answer name file input.now ≡ spec.answer name other input.now }
 {
     match refusal_in(input) {
-        Some(refusal) => refusal.place != Place::Nowhere,
+        Some(refusal) => refusal.place != Place::Nowhere || refusal.rule.word == "T2",
         None => false,
     }
 }

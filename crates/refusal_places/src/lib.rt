@@ -15,13 +15,13 @@ mod rule_table;
 mod rule_text;
 mod spot;
 
-pub use answering::{answer, names_place};
+pub use answering::{answer, needs_file};
 pub use finding::rule_of;
 pub use pieces::push_place;
 pub use placing::place_text;
 pub use reading::refusal_of;
 pub use refusal::{Place, Refusal};
-pub use rule::{PlaceKind, Rule};
+pub use rule::{PlaceKind, Rule, Topic};
 pub use rule_table::rules;
 pub use rule_text::rules_text;
 pub use spot::{Spot, byte_spot, column_of, line_spot};

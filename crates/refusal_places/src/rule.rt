@@ -30,6 +30,57 @@ impl PlaceKind {
     }
 }
 
+/// What the advice on a rule is about, by what its refusals say.
+#[derive(Clone, Copy, Debug, PartialEq, Eq)]
+pub enum Topic {
+    /// Nothing is advised.
+    Nothing,
+    /// Where the handlers end.
+    Halves,
+    /// What was found, and what could stand there by the grammar.
+    Grammar,
+    /// The size of a number.
+    Number,
+    /// Blocks or parentheses in one another, or the signs of an expression.
+    Nesting,
+    /// A name that is declared a second time.
+    Twice,
+    /// A table that isn't declared, or a variable that isn't visible.
+    Unknown,
+    /// The arguments of an operation.
+    Arguments,
+    /// An operation on a table of the other kind.
+    OtherKind,
+    /// How often a loop turns.
+    Turns,
+    /// How many tables there are.
+    TableNumber,
+    /// How many handlers there are.
+    HandlerNumber,
+    /// How variables are counted.
+    Variables,
+    /// How calls are counted.
+    Calls,
+    /// How work is counted.
+    Work,
+    /// How symbols are counted.
+    Symbols,
+    /// The table that a line names.
+    Tables,
+    /// How many words stand behind a table's name in its line.
+    TableWords,
+    /// A word of a line that is no value.
+    NoValue,
+    /// A key that a table is given a second time.
+    GivenKey,
+    /// How many lines the tables have.
+    TableLines,
+    /// The handler that a request names.
+    Handlers,
+    /// How many arguments a request has.
+    RequestWords,
+}
+
 /// A rule that an input may break.
 #[derive(Clone, Copy, Debug)]
 pub struct Rule {
@@ -37,6 +88,8 @@ pub struct Rule {
     pub word: &'static str,
     /// What that line names.
     pub place: PlaceKind,
+    /// What the advice on it is about.
+    pub topic: Topic,
     /// What breaks it, in plain words.
     pub sentence: &'static str,
 }

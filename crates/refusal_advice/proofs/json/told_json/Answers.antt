@@ -3,7 +3,7 @@ use Rattle.refusal_places.specs.Answers.{said_of}
 use Rattle.refusal_places.specs.Refusals.{refusal_of, said}
 use Rattle.refusal_places.specs.RuleTable.{row_of}
 use Rattle.refusal_places.proofs.Saying.{said_utf8, said_none}
-use Rattle.rule_advice.proofs.Mapped.{ok_map}
+use Rattle.refusal_advice.proofs.Mapped.{ok_map}
 use Rattle.refusal_advice.proofs.Objects.{none_told, told_by}
 use Rattle.refusal_advice.proofs.json.told_json.Goals as goal
 

@@ -1,9 +1,0 @@
-pub mod Appending
-pub mod Earliest
-pub mod Mapped
-pub mod Nearing
-pub mod Rowing
-pub mod Ruling
-pub mod Seeing
-pub mod Tallying
-pub mod Unlisted

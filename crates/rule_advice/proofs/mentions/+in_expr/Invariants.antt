@@ -1,5 +1,0 @@
-use Rattle.syntax_trees.proofs.Sizes.{expr_size}
-use Rattle.rule_advice.proofs.mentions.+in_expr.Given as goal
-
-abbrev pub decreases-in_expr : goal.decreases-in_expr
-decreases-in_expr l = expr_size l.e.now
