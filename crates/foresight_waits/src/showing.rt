@@ -4,7 +4,7 @@ ghost use Rattle.foresight_waits.specs.Commands.{version_line};
 ghost use Rattle.foresight_waits.specs.Endings.{IsCounted, IsShown, IsWritten};
 
 use crate::ending::Ending;
-use delay_counts::{MAX_AUDIT_INPUT, told_trace};
+use waiting_pairs::{MAX_AUDIT_INPUT, told_trace};
 use std::alloc::Global;
 use std::io::Write;
 use waiting_pairs::{Fault, Form, MAX_INPUT, told};

@@ -7,3 +7,14 @@ pub mod Waits
 pub use Rattle.session_values.specs.Limits
 pub use Rattle.serve_reading.specs.Message
 pub use Rattle.serve_reading.specs.declared.load_error.LoadError
+pub mod Causes
+pub mod Chains
+pub mod TraceDelays
+pub mod Heads
+pub mod CountJson
+pub mod CountLines
+pub mod Rows
+pub mod Steps
+pub mod TraceTold
+pub use Rattle.serve_faults.specs.Command
+pub use Rattle.serve_reading.specs.Reasons

@@ -5,21 +5,41 @@
 #![tactic(auto)]
 
 mod asked;
+mod cause;
+mod chains;
+mod counting;
+mod counts;
+mod delay;
+mod count_json;
+pub mod count_laws;
+mod count_lines;
+mod trace_telling;
 mod delaying;
 mod form;
 mod json;
 pub mod laws;
 mod lines;
+mod links;
 mod naming;
+mod table;
 mod telling;
 mod waiting;
+mod ways;
 
 pub use asked::Asked;
+pub use cause::Cause;
+pub use counting::Row;
+pub use counts::{Counts, counts_of};
+pub use delay::Delay;
+pub use count_json::delay_json;
+pub use count_lines::delay_lines;
+pub use trace_telling::told_trace;
 pub use delaying::delays;
 pub use form::Form;
 pub use json::wait_json;
 pub use lines::wait_lines;
 pub use naming::{handler_name, named, push_symbol, symbol_text};
+pub use serve_faults::MAX_AUDIT_INPUT;
 pub use serve_reading::{Fault, LoadError, Status, message_of};
 pub use session_values::MAX_INPUT;
 pub use telling::told;
