@@ -7,7 +7,7 @@ use Rattle.session_values.specs.Names.{AreDistinct, Begins}
 use Rattle.session_values.proofs.NamesLemmas.{bytes_eq_same}
 use Rattle.handler_check.specs.File.{File}
 use Rattle.handler_check.specs.TableDecl.{TableDecl}
-use Rattle.handler_check.specs.CheckRefusal.TheVariants.{Twice}
+use Rattle.handler_check.specs.declared.refusal.CheckRefusal.TheVariants.{Twice}
 use Rattle.handler_check.specs.FirstFault.{KeepsRules}
 use Rattle.handler_check.specs.Marks.{declared, table_marks}
 use Rattle.handler_check.proofs.Meaning.{Fresh, fresh_text, one_number}

@@ -3,8 +3,8 @@ use Rattle.std.proofs.Common.{◌≡◌, ℕ, inl, inr, List, [], ◌∷◌, ◌
 use Rattle.std.proofs.lemmas.List.Elements.{All-from_recursion, All-contains}
 use Rattle.handler_check.specs.Handler.{Handler}
 use Rattle.handler_check.specs.TableDecl.{TableDecl}
-use Rattle.handler_check.specs.CheckRefusal.{CheckRefusal}
-use Rattle.handler_check.specs.CheckRefusal.TheVariants.{Twice, Unknown, Arity, WrongTable, RepeatBound, TooManyTables, TooManyHandlers, TooManyVariables, TooManyCalls, TooMuchWork, NoMemory}
+use Rattle.handler_check.specs.declared.refusal.CheckRefusal.{CheckRefusal}
+use Rattle.handler_check.specs.declared.refusal.CheckRefusal.TheVariants.{Twice, Unknown, Arity, WrongTable, RepeatBound, TooManyTables, TooManyHandlers, TooManyVariables, TooManyCalls, TooMuchWork, NoMemory}
 use Rattle.handler_check.specs.FirstFault.{KeepsRules}
 use Rattle.handler_check.specs.Marks.{handler_marks}
 use Rattle.handler_check.specs.Rules.{IsBroken}

@@ -1,7 +1,7 @@
 // Why there is nothing to write.
 
 ghost use Rattle.handler_syntax.specs.Language.syntax_refusal as syntax;
-ghost use Rattle.handler_check.specs.CheckRefusal.TheVariants as check;
+ghost use Rattle.handler_check.specs.declared.refusal.CheckRefusal.TheVariants as check;
 ghost use Rattle.may_use_analysis.specs.declared.refusal.AnalysisRefusal.TheVariants as analysis;
 ghost use Rattle.request_files.specs.declared.refusal.RequestRefusal.TheVariants as request;
 ghost use Rattle.table_lines.specs.declared.refusal.TableRefusal.TheVariants as table;

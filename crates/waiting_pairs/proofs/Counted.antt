@@ -10,7 +10,8 @@ use Rattle.waiting_pairs.specs.declared.cause.Cause.{Cause}
 use Rattle.waiting_pairs.specs.declared.counting.Row.{Row}
 use Rattle.waiting_pairs.specs.Causes.{is_same}
 use Rattle.waiting_pairs.specs.Rows.{AreRows, distinct, firsts, row_of, tally}
-use Rattle.waiting_pairs.proofs.Same.{one_cause}
+use Rattle.waiting_pairs.proofs.Distinct.{differ}
+use Rattle.waiting_pairs.specs.Same.{one_cause}
 
 module _ {X : Type 0} where
   behind : (b : Bool) (x : X) (ys : List X) (c : X) → Contains ys c → Contains (cond b (x ∷ ys) ys) c
@@ -35,12 +36,6 @@ module _ {X : Type 0} where
     in_distinct [] k c lt is = absurd (omega (arith, lt))
     in_distinct (x ∷ xs) zero c lt is = (0, omega arith, is)
     in_distinct (x ∷ xs) (suc k) c lt is = pick x c (distinct E xs) (in_distinct xs k c (omega (arith, lt)) is) (E x c) refl
-
-  differ : (E : X → X → Bool) (xs : List X) → AllPairs (λ a b. E a b ≡ false) (distinct E xs)
-  differ E [] = λ i j d lt near. absurd (omega (arith, near))
-  differ E (x ∷ xs) = AllPairs-cons (λ a b. E a b ≡ false) x (filter (λ y. not (E x y)) (distinct E xs))
-      (λ k d lt. not-true (E x (get_or (filter (λ y. not (E x y)) (distinct E xs)) k d)) (filter_passes (λ y. not (E x y)) (distinct E xs) k d lt))
-      (AllPairs-filter (λ a b. E a b ≡ false) (λ y. not (E x y)) (distinct E xs) (differ E xs))
 
 pub has_row : (causes : List Cause) (rows : List Row) → AreRows causes rows → (c : Cause) → Contains causes c → Contains rows (row_of causes c)
 has_row causes rows are c h =

@@ -1,9 +1,10 @@
 -- The elements of a list, those that are the same once.
-use Rattle.std.proofs.Common.{◌≡◌, ℕ, ◌+◌, ◌<◌, Bool, true, false, cond, not, ◌||◌, List, [], ◌∷◌, ◌++◌, length, take, get_or, append-nil, refl, sym, ap, ◌∙◌}
-use Rattle.std.specs.List.{filter, list_any}
+use Rattle.std.proofs.Common.{◌≡◌, Bool, true, false, cond, not, ◌||◌, List, [], ◌∷◌, ◌++◌, get_or, append-nil, refl, sym, ap, ◌∙◌, arith}
+use Rattle.std.specs.List.{AllPairs, filter, list_any}
 use Rattle.std.specs.Cmp.{IsEquivalence}
-use Rattle.std.proofs.lemmas.List.{take_more}
-use Rattle.std.proofs.lemmas.List.Elements.{filter-append}
+use Rattle.std.proofs.lemmas.Bool.{not-true}
+use Rattle.std.proofs.lemmas.List.Elements.{filter-append, filter_passes}
+use Rattle.std.proofs.lemmas.List.Kept.{AllPairs-cons, AllPairs-filter}
 use Rattle.waiting_pairs.specs.Rows.{distinct}
 
 module _ {X : Type 0} (E : X → X → Bool) (e : IsEquivalence E) where
@@ -16,7 +17,7 @@ module _ {X : Type 0} (E : X → X → Bool) (e : IsEquivalence E) where
   any_step x c y differs ys zs rest false h = ap (λ (b : Bool). E c y || b) rest
 
   -- what is the same as c isn't taken out for another one
-  any_kept : (x c : X) → E c x ≡ false → (ys : List X) → list_any (E c) (filter (λ y. not (E x y)) ys) ≡ list_any (E c) ys
+  pub any_kept : (x c : X) → E c x ≡ false → (ys : List X) → list_any (E c) (filter (λ y. not (E x y)) ys) ≡ list_any (E c) ys
   any_kept x c differs [] = refl
   any_kept x c differs (y ∷ ys) = any_step x c y differs ys (filter (λ z. not (E x z)) ys) (any_kept x c differs ys) (E x y) refl
 
@@ -42,14 +43,9 @@ module _ {X : Type 0} (E : X → X → Bool) (e : IsEquivalence E) where
       ap (λ (zs : List X). x ∷ filter (λ y. not (E x y)) zs) (distinct_push xs c)
       ∙ push_step x c (distinct E xs) (E c x) refl (list_any (E c) (distinct E xs)) refl
 
-  -- one more element of a list, that is known or isn't
-  module _ (xs : List X) (i : ℕ) (c : X) (lt : i < length xs) (is : c ≡ get_or xs i c) (found : List X) (so_far : found ≡ distinct E (take i xs)) where
-    more : distinct E (take (i + 1) xs) ≡ cond (list_any (E c) found) found (found ++ c ∷ [])
-    more = ap (distinct E) (take_more xs i c lt ∙ ap (λ (z : X). take i xs ++ z ∷ []) (sym is)) ∙ distinct_push (take i xs) c
-        ∙ ap (λ (zs : List X). cond (list_any (E c) zs) zs (zs ++ c ∷ [])) (sym so_far)
-
-    pub known_one : list_any (E c) found ≡ true → found ≡ distinct E (take (i + 1) xs)
-    known_one h = sym (more ∙ ap (λ (b : Bool). cond b found (found ++ c ∷ [])) h)
-
-    pub new_one : list_any (E c) found ≡ false → found ++ c ∷ [] ≡ distinct E (take (i + 1) xs)
-    new_one h = sym (more ∙ ap (λ (b : Bool). cond b found (found ++ c ∷ [])) h)
+module _ {X : Type 0} where
+  pub differ : (E : X → X → Bool) (xs : List X) → AllPairs (λ a b. E a b ≡ false) (distinct E xs)
+  differ E [] = λ i j d lt near. absurd (omega (arith, near))
+  differ E (x ∷ xs) = AllPairs-cons (λ a b. E a b ≡ false) x (filter (λ y. not (E x y)) (distinct E xs))
+      (λ k d lt. not-true (E x (get_or (filter (λ y. not (E x y)) (distinct E xs)) k d)) (filter_passes (λ y. not (E x y)) (distinct E xs) k d lt))
+      (AllPairs-filter (λ a b. E a b ≡ false) (λ y. not (E x y)) (distinct E xs) (differ E xs))

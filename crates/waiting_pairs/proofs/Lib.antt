@@ -1,23 +1,26 @@
 mod Adding
+mod Apart
+mod ChosenLists
+mod CountLemmas
+mod CountObjects
+mod Counted
+mod CountedLists
 mod Deciding
+mod Distinct
 mod Exact
 mod Fronts
-mod Opening
+mod Heads
+mod LinkLemmas
+mod Longest
+mod Mapped
 mod Objects
+mod Opening
 mod Operations
+mod RowLists
+mod Settled
+mod Sorting
+mod TellingLemmas
 mod Tied
 mod TiedPairs
+mod WayLemmas
 mod Written
-pub mod CountLemmas
-pub mod Counted
-pub mod Distinct
-pub mod Heads
-pub mod LinkLemmas
-pub mod Longest
-pub mod Mapped
-pub mod CountObjects
-pub mod Same
-pub mod Settled
-pub mod Sorting
-pub mod TellingLemmas
-pub mod WayLemmas

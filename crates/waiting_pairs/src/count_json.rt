@@ -6,15 +6,15 @@ ghost use Rattle.serde_json.specs.View.{items_of, view};
 ghost use Rattle.serde_json.specs.Written.{compact_text, has_float};
 ghost use Rattle.waiting_pairs.specs.CountJson as spec;
 
+use crate::count_lines::handler_text;
 use crate::counting::Row;
 use crate::counts::Counts;
-use crate::lines::handler_text;
+use crate::symbol_text;
 use serde_json::{Value, json};
 use serve_reading::Program;
 use session_values::{Names, NoMemory};
 use std::alloc::{AllocError, Global};
 use symbolic_ops::Symbol;
-use crate::symbol_text;
 
 /// What a row's object holds.
 #[derive(Clone, Copy)]

@@ -8,12 +8,12 @@ ghost use Rattle.waiting_pairs.specs.CountLines as spec;
 use crate::cause::Cause;
 use crate::counting::Row;
 use crate::counts::Counts;
+use crate::{handler_name, named, push_symbol};
 use itoa::Buffer;
 use serve_reading::Program;
 use session_values::{Names, NoMemory};
 use std::alloc::Global;
 use symbolic_ops::Symbol;
-use crate::{handler_name, named, push_symbol};
 
 /// The name of a handler, or a question mark.
 pub(crate) fn handler_text<'a>(program: &Program, names: &'a Names, handler: Option<u32>) -> &'a str

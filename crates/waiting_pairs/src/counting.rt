@@ -1,11 +1,10 @@
 // Counting delays.
 
-ghost use Rattle.std.specs.Prelude.{◌≡◌, ◌<◌, ◌≤◌, IfOk, count_by, length, map};
-ghost use Rattle.std.specs.List.{list_any};
-ghost use Rattle.waiting_pairs.specs.Causes.{is_same as same};
+ghost use Rattle.std.specs.Prelude.{◌≡◌, ◌<◌, IfOk, length, map};
 ghost use Rattle.waiting_pairs.specs.Rows as spec;
 
-use crate::cause::{Cause, is_same};
+use crate::cause::Cause;
+use indexmap::IndexMap;
 use session_values::NoMemory;
 use std::alloc::Global;
 use std::cmp::Reverse;
@@ -18,55 +17,66 @@ pub struct Row {
     pub count: u32,
 }
 
-/// Whether the cause is among these.
-fn is_among(causes: &[Cause], cause: &Cause) -> bool
-    ensures { result ≡ list_any (same cause.now) causes.now }
+/// How many a cause has so far.
+fn count_of(found: &IndexMap<Cause, u32>, cause: &Cause) -> u32
+    ensures { result ≡ spec.count_in found.now.entries cause.now }
 {
-    causes.iter().any(|c| is_same(cause, c))
+    match found.get(cause) {
+        Some(count) => *count,
+        None => 0,
+    }
 }
 
-/// How many of these are the cause.
-fn count_of(causes: &[Cause], cause: &Cause) -> usize
-    ensures { result ≡ count_by (same cause.now) causes.now }
+/// The causes, each once with how many of them there are, in the order in which they come first.
+fn counted(alloc: Global, causes: &[Cause]) -> Result<IndexMap<Cause, u32>, NoMemory>
+    requires { length causes.now < 4294967296 }
+    ensures { IfOk result (λ found. found.entries ≡ spec.counted causes.now) }
 {
-    causes.iter().filter(|c| is_same(cause, c)).count()
-}
-
-/// The causes, each once, in the order in which they come first.
-fn firsts(alloc: Global, causes: &[Cause]) -> Result<Vec<Cause>, NoMemory>
-    ensures { IfOk result (λ found. found.items ≡ spec.firsts causes.now) }
-{
-    let mut found = Vec::new(alloc);
+    let mut found = IndexMap::new(alloc);
     for cause in causes {
-        if !is_among(&found, cause) {
-            found.push(*cause)?;
-        }
+        let count = count_of(&found, cause);
+        found.insert(*cause, count + 1)?;
     }
     Ok(found)
 }
 
-/// The row of a cause of a list.
-fn row_of(causes: &[Cause], cause: &Cause) -> Row
-    requires { length causes.now < 4294967296 }
-    ensures { result ≡ spec.row_of causes.now cause.now }
+/// The row of an entry.
+fn row_at(found: &IndexMap<Cause, u32>, at: usize) -> Option<Row>
+    ensures { result ≡ spec.row_at found.now.entries at }
 {
-    Row {
-        cause: *cause,
-        count: count_of(causes, cause) as u32,
+    match found.get_index(at) {
+        Some((cause, count)) => Some(Row {
+            cause: *cause,
+            count: *count,
+        }),
+        None => None,
     }
 }
 
+/// The rows of entries, in the same order.
+fn rows_in(alloc: Global, found: &IndexMap<Cause, u32>) -> Result<Vec<Row>, NoMemory>
+    ensures { IfOk result (λ rows. rows.items ≡ map spec.row_in found.now.entries) }
+{
+    let mut rows = Vec::new(alloc);
+    for at in 0..found.len() {
+        match row_at(found, at) {
+            Some(row) => {
+                rows.push(row)?;
+            }
+            None => {}
+        }
+    }
+    Ok(rows)
+}
+
 /// A row for each of the causes, in the order in which they come first.
+#[tactic(auto, using(crate::proofs::RowLists::rows_told))]
 fn tally(alloc: Global, causes: &[Cause]) -> Result<Vec<Row>, NoMemory>
     requires { length causes.now < 4294967296 }
     ensures { IfOk result (λ rows. rows.items ≡ spec.tally causes.now) }
 {
-    let found = firsts(alloc, causes)?;
-    let mut rows = Vec::new(alloc);
-    for cause in found.as_slice() {
-        rows.push(row_of(causes, cause))?;
-    }
-    Ok(rows)
+    let found = counted(alloc, causes)?;
+    rows_in(alloc, &found)
 }
 
 /// A row for each of the causes, that with the largest count first, and of equal counts that whose

@@ -1,22 +1,23 @@
 // From the bytes of a file to the text that tells who waited for whom.
 
 ghost use Rattle.std.specs.Prelude.{◌≡◌, ◌≤◌, IfErr, IfOk, length, map};
-ghost use Rattle.serve_faults.specs.Input.{max_audit_input};
+ghost use Rattle.serve_faults.specs.Input.{IsInput, max_audit_input};
 ghost use Rattle.serve_faults.specs.Command.TheVariants.{Audit};
 ghost use Rattle.serve_reading.specs.Reasons.{IsReason};
 ghost use Rattle.waiting_pairs.specs.TraceTold.{IsToldOf, IsTraceTold, text_in};
 
+use crate::Form;
+use crate::count_json::delay_json;
+use crate::count_lines::delay_lines;
 use crate::counts::{Counts, counts_of};
-use crate::json::delay_json;
-use crate::lines::delay_lines;
 use serve_reading::{Audited, LoadError, Program, load_audited};
 use session_values::{Names, NoMemory};
 use std::alloc::Global;
-use crate::Form;
 
 /// The text that tells who waited for whom in the trace that a session file ends in, in this form.
 pub fn told_trace(alloc: Global, form: Form, bytes: &[u8]) -> Result<Vec<u8>, LoadError>
     requires { length bytes.now ≤ max_audit_input }
+    ensures input { IfOk result (λ _. IsInput Audit bytes.now) }
     ensures told { IfOk result (λ text. IsTraceTold form bytes.now text.items) }
     ensures refused { IfErr result (IsReason Audit bytes.now) }
 {

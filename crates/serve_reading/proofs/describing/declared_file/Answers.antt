@@ -1,7 +1,7 @@
 use Rattle.std.proofs.Common.{◌∙◌, ap, refl, subst, sym}
 use Rattle.handler_syntax.specs.Language.{File}
 use Rattle.handler_check.specs.Checking.{IsAccepted, IsRefusal}
-use Rattle.handler_check.specs.CheckRefusal.TheVariants as check
+use Rattle.handler_check.specs.declared.refusal.CheckRefusal.TheVariants as check
 use Rattle.may_use_analysis.specs.Later.{AreLater}
 use Rattle.declaration_insertion.specs.Program.{ProgramView}
 use Rattle.serve_faults.specs.declared.status.Fault.TheVariants as fault

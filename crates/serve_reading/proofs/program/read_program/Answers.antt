@@ -2,7 +2,7 @@ use Rattle.std.proofs.Common.{ℕ, List, subst}
 use Rattle.handler_syntax.specs.Language.{File, HasFault, IsSourceOf}
 use Rattle.handler_syntax.specs.Language.syntax_refusal as syntax
 use Rattle.handler_check.specs.Checking.{IsRefusal}
-use Rattle.handler_check.specs.CheckRefusal.TheVariants as check
+use Rattle.handler_check.specs.declared.refusal.CheckRefusal.TheVariants as check
 use Rattle.serve_faults.specs.declared.status.Fault.TheVariants as fault
 use Rattle.serve_reading.specs.Reasons.{IsProgramReason}
 use Rattle.serve_reading.proofs.Exits.{exit_named}

@@ -1,7 +1,7 @@
 use Rattle.std.proofs.Common.{subst, ◌≡◌, true}
 use Rattle.waiting_pairs.specs.declared.cause.Cause.{Cause}
 use Rattle.waiting_pairs.specs.Causes.{is_same}
-use Rattle.waiting_pairs.proofs.Same.{one_cause, same_equiv}
+use Rattle.waiting_pairs.specs.Same.{one_cause, same_equiv}
 use Rattle.waiting_pairs.proofs.count_laws.same_causes_are_equal.Goals as goal
 
 pub returns : goal.returns

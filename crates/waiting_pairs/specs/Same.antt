@@ -10,7 +10,9 @@ use Rattle.session_values.proofs.KindLemmas.{one_place}
 use Rattle.symbolic_ops.specs.declared.symbol.Symbol.{Symbol}
 use Rattle.symbolic_ops.specs.Order.{arg_cmp, arg_exact, symbol_eq, symbol_eq_equiv}
 use Rattle.waiting_pairs.specs.declared.cause.Cause.{Cause}
-use Rattle.waiting_pairs.specs.Causes.{is_same, same_number}
+use Rattle.waiting_pairs.specs.declared.sought.Sought.{Sought}
+use Rattle.waiting_pairs.specs.Causes.{hash_input, is_same, same_number}
+use Rattle.waiting_pairs.specs.Sought.{is_sought, sought_input}
 
 number_equiv : IsEquivalence same_number
 number_equiv = record { refl = itself; symm = turned; congr = along }
@@ -56,7 +58,7 @@ one_op a b h =
     let y : a.value ≡ b.value = value_cmp-IsAntisymmetric a.value b.value ((Equal-is (value_cmp a.value b.value)).0 third.1) in
     λ i. record { kind = k i; table = t i; key = x i; value = y i }
 
-one_symbol : (a b : Symbol) → symbol_eq a b ≡ true → a ≡ b
+pub one_symbol : (a b : Symbol) → symbol_eq a b ≡ true → a ≡ b
 one_symbol a b h =
     let first = and_parts (kind_place a.kind == kind_place b.kind) _ h in
     let second = and_parts (a.table == b.table) _ first.1 in
@@ -66,6 +68,9 @@ one_symbol a b h =
     let x : a.key ≡ b.key = arg_exact a.key b.key ((Equal-is (arg_cmp a.key b.key)).0 third.0) in
     let y : a.value ≡ b.value = arg_exact a.value b.value ((Equal-is (arg_cmp a.value b.value)).0 third.1) in
     λ i. record { kind = k i; table = t i; key = x i; value = y i }
+
+pub one_sought : (a b : Sought) → is_sought a b ≡ true → a ≡ b
+one_sought a b h = λ i. record { symbol = one_symbol a.symbol b.symbol h i }
 
 pub one_cause : (a b : Cause) → is_same a b ≡ true → a ≡ b
 one_cause a b h =
@@ -77,3 +82,10 @@ one_cause a b h =
     let v : a.holder ≡ b.holder = one_number a.holder b.holder third.1 in
     let s : a.symbol ≡ b.symbol = one_symbol a.symbol b.symbol last.1 in
     λ i. record { waits = w i; operation = o i; holder = v i; symbol = s i }
+
+-- ---- they are looked up by the same
+pub sought_alike : (a b : Sought) → is_sought a b ≡ true → sought_input a ≡ sought_input b
+sought_alike a b h = ap sought_input (one_sought a b h)
+
+pub cause_alike : (a b : Cause) → is_same a b ≡ true → hash_input a ≡ hash_input b
+cause_alike a b h = ap hash_input (one_cause a b h)

@@ -4,7 +4,7 @@ use Rattle.session_values.specs.declared.value.Value.{Value}
 use Rattle.waiting_pairs.specs.Delays.{Delays}
 use Rattle.waiting_pairs.specs.Opened.{Tells, known_or_zero}
 use Rattle.waiting_pairs.proofs.Tied.{decide_free, decide_tied}
-use Rattle.waiting_pairs.proofs.delaying.delays.Goals as goal
+use Rattle.waiting_pairs.proofs.delaying.delays_on_one.Goals as goal
 
 pub returns-then-has_tied : goal.returns-then-has_tied
 returns-then-has_tied c =
