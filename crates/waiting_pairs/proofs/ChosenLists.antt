@@ -2,16 +2,17 @@
 use Rattle.std.proofs.Common.{◌≡◌, ℕ, zero, suc, ◌+◌, ◌<◌, ◌≤◌, inl, inr, Bool, true, false, cond, not, List, [], ◌∷◌, ◌++◌, map, length, take, get_or, Option, Some, None, Contains, append_assoc, append-nil, refl, sym, ap, subst, ◌∙◌, arith}
 use Rattle.std.specs.Prelude.{Vec, unwrap_or}
 use Rattle.std.specs.Bool.{Decides}
-use Rattle.std.specs.List.{All}
+use Rattle.std.specs.List.{All, list_any}
 use Rattle.std.specs.Map.{lookup}
 use Rattle.std.proofs.lemmas.List.{map-append, take_all, take_more}
 use Rattle.std.proofs.lemmas.List.Elements.{Contains-append_left, Contains-push}
 use Rattle.indexmap.specs.IndexMap.{insert_entry}
 use Rattle.symbolic_ops.specs.declared.symbol.Symbol.{Symbol}
 use Rattle.waiting_pairs.specs.declared.asked.Asked.{Asked}
+use Rattle.waiting_pairs.specs.declared.known.Known.{Known}
 use Rattle.waiting_pairs.specs.declared.sought.Sought.{Sought}
 use Rattle.waiting_pairs.specs.declared.waiting.Wait.{Wait}
-use Rattle.waiting_pairs.specs.Chosen.{AreAmong, Chosen}
+use Rattle.waiting_pairs.specs.Chosen.{AreAmong, Chosen, IsKnown}
 use Rattle.waiting_pairs.specs.Delays.{Delays}
 use Rattle.waiting_pairs.specs.Same.{one_sought, one_symbol}
 use Rattle.waiting_pairs.specs.Sought.{is_sought}
@@ -29,7 +30,7 @@ all_push : {X : Type 0} (P : X → Type 0) (xs : List X) (x : X) → All P xs �
 all_push P [] x h p = all_cons P x [] p h
 all_push P (y ∷ ys) x h p = all_cons P y (ys ++ x ∷ []) (h 0 y (omega arith)) (all_push P ys x (all_tail P y ys h) p)
 
-all_nil : {X : Type 0} (P : X → Type 0) → All P []
+pub all_nil : {X : Type 0} (P : X → Type 0) → All P []
 all_nil P k d lt = absurd (omega (arith, lt))
 
 one_more : {X : Type 0} (xs : List X) (i : ℕ) (x : X) → i < length xs → x ≡ get_or xs i x → take (i + 1) xs ≡ take i xs ++ x ∷ []
@@ -83,6 +84,13 @@ seen_on : (ops more : List Symbol) (key q : Sought) (has : Sought → Bool) → 
     → (b : Bool) → is_sought key q ≡ b → cond b true (has q) ≡ true → Contains more q.symbol
 seen_on ops more key q has old new true k h = subst (λ (z : Sought). Contains more z.symbol) (one_sought key q k) new
 seen_on ops more key q has old new false k h = old h
+
+pub none_seen : (q : Sought) (keys : List Sought) → keys ≡ [] → list_any (is_sought q) keys ≡ true → ⊥
+none_seen q keys e h = clash (subst (λ (ks : List Sought). list_any (is_sought q) ks ≡ true) e h)
+
+pub was_there : (had new : Bool) → new ≡ not had → new ≡ false → had ≡ true
+was_there true new is h = refl
+was_there false new is h = cc
 
 -- an operation that was there
 pub seen_again : (ops : List Symbol) (key : Sought) (has after : Sought → Bool) → ((q : Sought) → after q ≡ cond (is_sought key q) true (has q))
@@ -148,3 +156,12 @@ appended_more {X} {Y} f xs i x front old new lt is pushed so_far =
     pushed ∙ ap (λ (z : List Y). z ++ f x ∷ []) so_far ∙ append_assoc front (map f (take i xs)) (f x ∷ [])
     ∙ ap (λ (z : List Y). front ++ z) (sym (map-append f (take i xs) (x ∷ [])))
     ∙ ap (λ (z : List X). front ++ map f z) (sym (one_more xs i x lt is))
+
+-- ---- what is known
+pub known_more : (asked : List Asked) (old new : Known) → IsKnown asked old → new.asked.items ≡ old.asked.items → new.ops.items ≡ old.ops.items
+    → All (λ e. Chosen e.0.symbol asked e.1.items) new.lists.entries → IsKnown asked new
+known_more asked old new k a o l = record {
+  asked_is = a ∙ k.asked_is;
+  ops = subst (λ (z : List Symbol). AreAmong z asked) (sym o) k.ops;
+  lists = l;
+}

@@ -2,7 +2,8 @@ use Rattle.std.proofs.Common.{◌≡◌, Bool, sym, ap, subst, ◌∙◌}
 use Rattle.std.specs.Bool.{Decides}
 use Rattle.session_values.specs.declared.value.Value.{Value}
 use Rattle.waiting_pairs.specs.Delays.{Delays}
-use Rattle.waiting_pairs.specs.Opened.{Tells, known_or_zero}
+use Rattle.waiting_pairs.specs.Opened.{Tells}
+use Rattle.waiting_pairs.specs.Sought.{known_or_zero}
 use Rattle.waiting_pairs.proofs.Tied.{decide_free, decide_tied}
 use Rattle.waiting_pairs.proofs.delaying.delays_on_one.Goals as goal
 
