@@ -28,7 +28,7 @@ others (Var x) b e f k l n p q r = n
 others Any b e f k l n p q r = n
 
 apart_keys : (s o : Symbol) → HaveOtherKeys s o → Delays s o → ⊥
-apart_keys s o (p, (q, n)) d =
+apart_keys s o (p, q, n) d =
     others s.key o.key d.may_come.env d.may_call.env d.later.key d.called.key n d.may_come.stands.key d.may_call.stands.key
     ((on_one s o d).key (ap is_keyed (sym d.may_come.stands.kind) ∙ p) (ap is_keyed (sym d.may_call.stands.kind) ∙ q))
 
