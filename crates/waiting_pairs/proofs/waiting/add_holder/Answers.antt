@@ -16,6 +16,6 @@ pub returns : goal.returns
 returns c = λ asked k.
     let so_far = c.loop-point.invariant asked k in
     let count : c.handler.result.now.points ≡ 1 + points (code_at c.args.program.now.file c.args.holder) =
-      c.handler.ensures.points ∙ ap (λ (f : File). 1 + points (code_at f c.args.holder)) c.checked.ensures.file in
+    c.handler.ensures.points ∙ ap (λ (f : File). 1 + points (code_at f c.args.holder)) c.checked.ensures.file in
     let all : c.loop-point.point ≡ 1 + points (code_at c.args.program.now.file c.args.holder) = omega (arith, count, c.loop-point-test.false, c.loop-point.auto.point-end) in
     (so_far.0, subst (λ (n : ℕ). Adds (gather (at_point c.args.program.now asked c.args.holder) n) c.args.out.now.items c.loop-point.out.items) all so_far.1)

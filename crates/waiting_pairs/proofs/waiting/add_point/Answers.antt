@@ -13,6 +13,8 @@ loop-symbol-preserved c = λ asked k.
 
 pub returns : goal.returns
 returns c = λ asked k.
-    let so_far = c.loop-symbol.invariant asked k in
-    (so_far.0, subst (λ (z : List Symbol). Adds (flat_map (against c.args.holder c.args.point asked) z) c.args.out.now.items c.loop-symbol.out.items) c.declaration-symbols.ensures.list
-      (adds_symbols c.args.holder c.args.point asked c.declaration-symbols.result.now c.loop-symbol.symbol-index c.args.out.now.items c.loop-symbol.out.items (omega (arith, c.loop-symbol-test.false)) so_far.1))
+    let so_far = c.loop-symbol.invariant asked k in (
+      so_far.0,
+      subst (λ (z : List Symbol). Adds (flat_map (against c.args.holder c.args.point asked) z) c.args.out.now.items c.loop-symbol.out.items) c.declaration-symbols.ensures.list
+          (adds_symbols c.args.holder c.args.point asked c.declaration-symbols.result.now c.loop-symbol.symbol-index c.args.out.now.items c.loop-symbol.out.items (omega (arith, c.loop-symbol-test.false)) so_far.1),
+    )

@@ -18,9 +18,9 @@ returns-in-Some c = λ asked k.
     let found : Chosen c.args.symbol.now asked c.in-Some.list.now.items = found_list asked key c.in-Some.list.now c.args.self.now.lists.entries k.lists (sym c.in-Some.ensures.value) in
     let list : Chosen c.args.symbol.now asked c.deref.result.now = subst (λ (z : List Asked). Chosen c.args.symbol.now asked z) (sym c.deref.ensures.value) found in
     on_ok_map c.add_list.result
-      (c.add_list.new.out.items ≡ c.args.out.now.items ++ map (wait c.args.holder c.args.point c.args.symbol.now) c.deref.result.now)
-      (IsKnown asked c.args.self.now × Adds (against c.args.holder c.args.point asked c.args.symbol.now) c.args.out.now.items c.add_list.new.out.items)
-      (λ e. (k, adds_list c.args.holder c.args.point c.args.symbol.now asked c.deref.result.now c.args.out.now.items c.add_list.new.out.items list e)) c.add_list.ensures
+    (c.add_list.new.out.items ≡ c.args.out.now.items ++ map (wait c.args.holder c.args.point c.args.symbol.now) c.deref.result.now)
+    (IsKnown asked c.args.self.now × Adds (against c.args.holder c.args.point asked c.args.symbol.now) c.args.out.now.items c.add_list.new.out.items)
+    (λ e. (k, adds_list c.args.holder c.args.point c.args.symbol.now asked c.deref.result.now c.args.out.now.items c.add_list.new.out.items list e)) c.add_list.ensures
 
 pub returns-in_ok-insert-in-None : goal.returns-in_ok-insert-in-None
 returns-in_ok-insert-in-None c = λ asked k.
@@ -28,7 +28,8 @@ returns-in_ok-insert-in-None c = λ asked k.
     let tried : Chosen c.args.symbol.now asked c.in_ok-list-in-None.list.items = c.in_ok-list-in-None.ensures asked k in
     let list : Chosen c.args.symbol.now asked c.deref-in-None.result.now = subst (λ (z : List Asked). Chosen c.args.symbol.now asked z) (sym c.deref-in-None.ensures.value) tried in
     let lists : All (λ e. Chosen e.0.symbol asked e.1.items) c.insert.new.self.entries =
-      subst (λ (z : List (Sought × Vec Asked Global)). All (λ e. Chosen e.0.symbol asked e.1.items) z) (sym c.in_ok-insert-in-None.ensures.entries)
-      (inserted_list asked key c.in_ok-list-in-None.list c.args.self.now.lists.entries tried k.lists) in
-    (known_more asked c.args.self.now _ k refl refl lists,
-     adds_list c.args.holder c.args.point c.args.symbol.now asked c.deref-in-None.result.now c.args.out.now.items c.add_list-in-None.new.out.items list c.in_ok-add_list-in-None.ensures)
+    subst (λ (z : List (Sought × Vec Asked Global)). All (λ e. Chosen e.0.symbol asked e.1.items) z) (sym c.in_ok-insert-in-None.ensures.entries)
+    (inserted_list asked key c.in_ok-list-in-None.list c.args.self.now.lists.entries tried k.lists) in (
+      known_more asked c.args.self.now _ k refl refl lists,
+      adds_list c.args.holder c.args.point c.args.symbol.now asked c.deref-in-None.result.now c.args.out.now.items c.add_list-in-None.new.out.items list c.in_ok-add_list-in-None.ensures,
+    )
