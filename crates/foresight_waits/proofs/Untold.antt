@@ -4,8 +4,8 @@ use Rattle.waiting_pairs.specs.Told.{IsUntold}
 use Rattle.waiting_pairs.specs.LoadError.{LoadError}
 use Rattle.waiting_pairs.specs.LoadError.TheVariants as load_error
 use Rattle.waiting_pairs.specs.declared.form.Form.{Form}
-use Rattle.delay_counts.specs.Command.TheVariants.{Audit}
-use Rattle.delay_counts.specs.Reasons.{IsReason}
+use Rattle.waiting_pairs.specs.Command.TheVariants.{Audit}
+use Rattle.waiting_pairs.specs.Reasons.{IsReason}
 use Rattle.foresight_waits.specs.Endings.{IsCounted, IsShown, untold}
 
 pub shown_untold : (form : Form) (input : List ℕ) (out : Option (List ℕ)) (e : LoadError) → IsUntold input e → IsShown form input out out (untold e)

@@ -7,9 +7,9 @@ use Rattle.waiting_pairs.specs.Told.{IsTold, IsUntold}
 use Rattle.waiting_pairs.specs.declared.form.Form.{Form}
 use Rattle.waiting_pairs.specs.LoadError.{LoadError}
 use Rattle.waiting_pairs.specs.LoadError.TheVariants as load_error
-use Rattle.delay_counts.specs.Told.{IsTraceTold}
-use Rattle.delay_counts.specs.Command.TheVariants.{Audit}
-use Rattle.delay_counts.specs.Reasons.{IsReason}
+use Rattle.waiting_pairs.specs.TraceTold.{IsTraceTold}
+use Rattle.waiting_pairs.specs.Command.TheVariants.{Audit}
+use Rattle.waiting_pairs.specs.Reasons.{IsReason}
 use Rattle.foresight_waits.specs.declared.ending.Ending.{Ending}
 use Rattle.foresight_waits.specs.declared.ending.Ending.TheVariants.{Reported, Refused, Usage, NoMemory, ReadFault, WriteFault}
 

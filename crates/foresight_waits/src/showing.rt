@@ -4,10 +4,9 @@ ghost use Rattle.foresight_waits.specs.Commands.{version_line};
 ghost use Rattle.foresight_waits.specs.Endings.{IsCounted, IsShown, IsWritten};
 
 use crate::ending::Ending;
-use delay_counts::{MAX_AUDIT_INPUT, told_trace};
 use std::alloc::Global;
 use std::io::Write;
-use waiting_pairs::{Fault, Form, MAX_INPUT, told};
+use waiting_pairs::{Fault, Form, MAX_AUDIT_INPUT, MAX_INPUT, told, told_trace};
 
 /// Writes in this form who may wait for whom in the handlers of a file.
 #[tactic(auto, using(crate::proofs::Untold::shown_untold))]

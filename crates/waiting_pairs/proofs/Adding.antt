@@ -21,27 +21,6 @@ adds_none old = ([], refl, sym (append-nil old))
 pub adds_append : (xs ys old mid new : List Wait) → Adds xs old mid → Adds ys mid new → Adds (xs ++ ys) old new
 adds_append xs ys old mid new (f, p, e) (g, q, k) = (f ++ g, picks_append xs ys f g p q, k ∙ ap (λ (z : List Wait). z ++ g) e ∙ append_assoc old f g)
 
-against_more : (h p : ℕ) (s : Symbol) (xs : List Asked) (i : ℕ) (a : Asked) → i < length xs → a ≡ get_or xs i a → against h p (take (i + 1) xs) s ≡ against h p (take i xs) s ++ wait h p s a ∷ []
-against_more h p s xs i a lt is = ap (λ (z : List Asked). against h p z s) (take_more xs i a lt) ∙ map-append (wait h p s) (take i xs) (get_or xs i a ∷ []) ∙ ap (λ (z : Asked). against h p (take i xs) s ++ wait h p s z ∷ []) (sym is)
-
--- one pair, whether it delays or not
-pub one_hit : (w : Wait) (old new : List Wait) (r : Bool) → r ≡ true → Decides r (IsDelay w) → new ≡ old ++ w ∷ [] → Adds (w ∷ []) old new
-one_hit w old new r e d is = (w ∷ [], inl (d.0 e, ([], refl, refl)), is)
-
-pub one_miss : (w : Wait) (old : List Wait) (r : Bool) → r ≡ false → Decides r (IsDelay w) → Adds (w ∷ []) old old
-one_miss w old r e d = ([], inr (λ y. clash (sym e ∙ d.1 y), refl), sym (append-nil old))
-  where
-    clash : false ≡ true → ⊥
-    clash f = cc
-
-pub adds_one : (h p : ℕ) (s : Symbol) (xs : List Asked) (i : ℕ) (a : Asked) (old mid new : List Wait) → i < length xs → a ≡ get_or xs i a
-    → Adds (wait h p s a ∷ []) mid new → Adds (against h p (take i xs) s) old mid → Adds (against h p (take (i + 1) xs) s) old new
-adds_one h p s xs i a old mid new lt is one so_far =
-    subst (λ (z : List Wait). Adds z old new) (sym (against_more h p s xs i a lt is)) (adds_append (against h p (take i xs) s) (wait h p s a ∷ []) old mid new so_far one)
-
-pub adds_against : (h p : ℕ) (s : Symbol) (xs : List Asked) (i : ℕ) (old new : List Wait) → length xs ≤ i → Adds (against h p (take i xs) s) old new → Adds (against h p xs s) old new
-adds_against h p s xs i old new le = subst (λ (z : List Asked). Adds (against h p z s) old new) (take_all i xs le)
-
 -- ---- one more symbol, point, handler
 pub adds_symbol : (h p : ℕ) (asked : List Asked) (xs : List Symbol) (i : ℕ) (s : Symbol) (old mid new : List Wait) → i < length xs → s ≡ get_or xs i s
     → Adds (against h p asked s) mid new → Adds (flat_map (against h p asked) (take i xs)) old mid → Adds (flat_map (against h p asked) (take (i + 1) xs)) old new

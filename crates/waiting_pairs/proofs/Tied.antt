@@ -21,7 +21,8 @@ use Rattle.commute_tables.specs.Pairs.{AreOnOneKey}
 use Rattle.commute_tables.proofs.ListedPairs.{pairs_decided}
 use Rattle.serve_reading.specs.Promises.{arg_at}
 use Rattle.waiting_pairs.specs.Delays.{Delays, MayBe}
-use Rattle.waiting_pairs.specs.Opened.{is_tied, opened, opened_arg, known_or_zero, CommuteWith, Tells}
+use Rattle.waiting_pairs.specs.Opened.{is_tied, opened, opened_arg, CommuteWith, Tells}
+use Rattle.waiting_pairs.specs.Sought.{known_or_zero}
 use Rattle.waiting_pairs.proofs.Deciding.{on_one_key, free_complete}
 use Rattle.waiting_pairs.proofs.Opening.{to_opened, free_parts, key_opened, tied_opened, tied_same, tied_two, value_opened}
 use Rattle.waiting_pairs.proofs.TiedPairs.{zero, one, has_two, is_pair, free_pair, tied_pair}

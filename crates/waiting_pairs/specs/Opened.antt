@@ -1,7 +1,7 @@
 -- Symbols whose variables may hold any value. Only this crate's own functions cite it.
-use Rattle.std.specs.Prelude.{◌≡◌, pos, Bool, true, false, ◌==◌, if◌then◌else◌}
+use Rattle.std.specs.Prelude.{◌≡◌, ◌≢◌, Bool, true, false, ◌==◌, if◌then◌else◌}
 use Rattle.session_values.specs.declared.value.Value.{Value}
-use Rattle.session_values.specs.declared.value.Value.TheVariants.{Num}
+use Rattle.session_values.specs.Kinds.{is_keyed}
 use Rattle.symbolic_ops.specs.declared.symbol.Symbol.{Symbol}
 use Rattle.symbolic_ops.specs.Commuting.{SymbolsCommute}
 use Rattle.waiting_pairs.specs.Delays.{Delays}
@@ -35,11 +35,17 @@ opened s v = record {
   value = if is_tied s then Known v else opened_arg s.value;
 }
 
--- an argument's value, and 0 where none is known
-abbrev pub known_or_zero : Arg → Value
-known_or_zero (Known v) = v
-known_or_zero (Var x) = Num (pos 0)
-known_or_zero Any = Num (pos 0)
+-- both are known, and not the same
+abbrev pub AreOthers : Arg → Arg → Type 0
+AreOthers (Known v) (Known w) = v ≢ w
+AreOthers (Known v) (Var y) = ⊥
+AreOthers (Known v) Any = ⊥
+AreOthers (Var x) b = ⊥
+AreOthers Any b = ⊥
+
+-- both are of keys, and the keys are known and not the same
+abbrev pub HaveOtherKeys : Symbol → Symbol → Type 0
+HaveOtherKeys s o = (is_keyed s.kind ≡ true) × (is_keyed o.kind ≡ true) × AreOthers s.key o.key
 
 -- all that they stand for commutes, where a variable that stands twice holds this value
 abbrev pub CommuteWith : Symbol → Symbol → Value → Type 0

@@ -1,12 +1,13 @@
 // A symbol of what may still come against an operation.
 
-ghost use Rattle.std.specs.Prelude.{◌≡◌, ◌||◌};
+ghost use Rattle.std.specs.Prelude.{◌≡◌, ◌||◌, true};
 ghost use Rattle.std.specs.Bool.{Decides};
 ghost use Rattle.session_values.specs.Values.{IsValue};
 ghost use Rattle.symbolic_ops.specs.Matching.{HasNoVar};
 ghost use Rattle.waiting_pairs.specs.Delays.{Delays};
 ghost use Rattle.waiting_pairs.specs.Opened as spec;
 
+use crate::sought::known_or_zero;
 use commute_tables::commute_symbols;
 use session_values::Value;
 use symbolic_ops::{Arg, Symbol};
@@ -62,16 +63,6 @@ fn differ_with(s: &Symbol, o: &Symbol, value: Value) -> bool
     !commute_symbols(&opened(s, value), &opened(o, value))
 }
 
-/// The argument's value, and 0 where none is known.
-fn known_or_zero(arg: Arg) -> Value
-    ensures { result ≡ spec.known_or_zero arg }
-{
-    match arg {
-        Arg::Known(v) => v,
-        Arg::Var(_) | Arg::Any => Value::Num(0),
-    }
-}
-
 /// Whether one of them has one variable twice.
 fn has_tied(s: &Symbol, o: &Symbol) -> bool
     ensures { result ≡ (spec.is_tied s.now || spec.is_tied o.now) }
@@ -86,9 +77,38 @@ fn is_any(a: bool, b: bool, c: bool, d: bool) -> bool
     a || (b || (c || d))
 }
 
+/// Whether both are known, and not the same.
+fn are_others(a: Arg, b: Arg) -> bool
+    ensures { Decides result (spec.AreOthers a b) }
+{
+    match (a, b) {
+        (Arg::Known(v), Arg::Known(w)) => v != w,
+        (Arg::Known(_), Arg::Var(_) | Arg::Any) => false,
+        (Arg::Var(_) | Arg::Any, _) => false,
+    }
+}
+
+/// Whether both are of keys, and the keys are known and not the same.
+fn have_other_keys(s: &Symbol, o: &Symbol) -> bool
+    ensures { result ≡ true → spec.HaveOtherKeys s.now o.now }
+{
+    s.kind.is_keyed() && o.kind.is_keyed() && are_others(s.key(), o.key())
+}
+
 /// Whether for some values of the variables of both, which are two handlers', the symbol and the
 /// operation stand for operations that don't commute.
+#[tactic(auto, using(crate::proofs::Apart::of_two_tables, crate::proofs::Apart::of_two_keys))]
 pub fn delays(s: &Symbol, o: &Symbol) -> bool
+    ensures { Decides result (Delays s.now o.now) }
+{
+    if s.table != o.table || have_other_keys(s, o) {
+        return false;
+    }
+    delays_on_one(s, o)
+}
+
+/// The same, of symbols that may well be of one table and one key.
+fn delays_on_one(s: &Symbol, o: &Symbol) -> bool
     ensures { Decides result (Delays s.now o.now) }
 {
     s.bounds();

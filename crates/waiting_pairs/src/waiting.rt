@@ -1,12 +1,14 @@
 // Who waits for whom.
 
-ghost use Rattle.std.specs.Prelude.{◌+◌, ◌<◌, ◌∷◌, [], IfOk, OnOk, length};
+ghost use Rattle.std.specs.Prelude.{◌+◌, ◌<◌, List, IfOk, OnOk, length};
 ghost use Rattle.check_meaning.specs.Code.{points};
 ghost use Rattle.serve_reading.specs.Resolved.{code_at};
-ghost use Rattle.waiting_pairs.specs.Waits.{Adds, AreWaits, against, at_point, of_holder, wait};
+ghost use Rattle.waiting_pairs.specs.Waits.{Adds, AreWaits, at_point, of_holder};
+ghost use Rattle.waiting_pairs.specs.Chosen.{IsKnown};
+ghost use Rattle.waiting_pairs.specs.declared.asked.Asked.{Asked};
 
 use crate::asked::{Asked, asked_of};
-use crate::delaying::delays;
+use crate::known::Known;
 use serve_reading::Program;
 use session_values::NoMemory;
 use std::alloc::Global;
@@ -26,82 +28,42 @@ pub struct Wait {
     pub asked: Asked,
 }
 
-/// The operation joins `out` if the symbol of a point delays it.
-#[tactic(auto, using(crate::proofs::Adding::one_hit, crate::proofs::Adding::one_miss))]
-fn add_one(
-    holder: u32,
-    point: u32,
-    symbol: &Symbol,
-    asked: &Asked,
-    out: &mut Vec<Wait>,
-) -> Result<(), NoMemory>
-    ensures { OnOk result (Adds (wait holder point symbol.now asked.now ∷ []) out.old.items
-        out.new.items) }
-{
-    if delays(symbol, &asked.op) {
-        out.push(Wait {
-            holder,
-            point,
-            symbol: *symbol,
-            asked: *asked,
-        })?;
-        Ok(())
-    } else {
-        Ok(())
-    }
-}
-
-/// The operations that a symbol of a point delays join `out`.
-fn add_against(
-    holder: u32,
-    point: u32,
-    symbol: &Symbol,
-    asked: &[Asked],
-    out: &mut Vec<Wait>,
-) -> Result<(), NoMemory>
-    ensures { OnOk result (Adds (against holder point asked.now symbol.now) out.old.items
-        out.new.items) }
-{
-    for a in asked {
-        add_one(holder, point, symbol, a, out)?;
-    }
-    Ok(())
-}
-
 /// The operations that the symbols of a point delay join `out`.
 fn add_point(
+    alloc: Global,
     program: &Program,
-    asked: &[Asked],
+    known: &mut Known,
     holder: u32,
     point: u32,
     out: &mut Vec<Wait>,
 ) -> Result<(), NoMemory>
     requires holder { holder < length program.now.file.handlers }
     requires point { point < 1 + points (code_at program.now.file holder) }
-    ensures { OnOk result (Adds (at_point program.now asked.now holder point) out.old.items
-        out.new.items) }
+    ensures { (asked : List Asked) → IsKnown asked known.old → OnOk result (IsKnown asked known.new
+        × Adds (at_point program.now asked holder point) out.old.items out.new.items) }
 {
     let symbols = program.declaration(holder, point);
     for symbol in symbols {
-        add_against(holder, point, symbol, asked, out)?;
+        known.add_against(alloc, holder, point, symbol, out)?;
     }
     Ok(())
 }
 
 /// The operations that a handler delays join `out`.
 fn add_holder(
+    alloc: Global,
     program: &Program,
-    asked: &[Asked],
+    known: &mut Known,
     holder: u32,
     out: &mut Vec<Wait>,
 ) -> Result<(), NoMemory>
     requires { holder < length program.now.file.handlers }
-    ensures { OnOk result (Adds (of_holder program.now asked.now holder) out.old.items
-        out.new.items) }
+    ensures { (asked : List Asked) → IsKnown asked known.old → OnOk result (IsKnown asked known.new
+        × Adds (of_holder program.now asked holder) out.old.items out.new.items) }
 {
     let count = program.checked().handler(holder).points;
     for point in 0..count {
-        add_point(program, asked, holder, point, out)?;
+        add_point(alloc, program, known, holder, point, out)?;
     }
     Ok(())
 }
@@ -112,9 +74,10 @@ pub fn waits(alloc: Global, program: &Program) -> Result<Vec<Wait>, NoMemory>
     ensures { IfOk result (λ found. AreWaits program.now found.items) }
 {
     let asked = asked_of(alloc, program)?;
+    let mut known = Known::new(alloc, asked)?;
     let mut out = Vec::new(alloc);
     for holder in 0..program.checked().handlers() {
-        add_holder(program, &asked, holder, &mut out)?;
+        add_holder(alloc, program, &mut known, holder, &mut out)?;
     }
     Ok(out)
 }

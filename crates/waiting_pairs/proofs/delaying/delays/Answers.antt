@@ -1,19 +1,13 @@
-use Rattle.std.proofs.Common.{◌≡◌, Bool, sym, ap, subst, ◌∙◌}
-use Rattle.std.specs.Bool.{Decides}
-use Rattle.session_values.specs.declared.value.Value.{Value}
-use Rattle.waiting_pairs.specs.Delays.{Delays}
-use Rattle.waiting_pairs.specs.Opened.{Tells, known_or_zero}
-use Rattle.waiting_pairs.proofs.Tied.{decide_free, decide_tied}
+use Rattle.std.proofs.Common.{sym, ap, ◌∙◌}
+use Rattle.symbolic_ops.specs.declared.symbol.Symbol.{Symbol}
+use Rattle.waiting_pairs.proofs.Apart.{of_two_keys, of_two_tables}
 use Rattle.waiting_pairs.proofs.delaying.delays.Goals as goal
+use Rattle.waiting_pairs.proofs.delaying.delays.Goals.{then-s-o-via-then-s-o, then-s-o-via-else-s-o+then-have_other_keys}
 
-pub returns-then-has_tied : goal.returns-then-has_tied
-returns-then-has_tied c =
-    let s = c.args.s.now in
-    let o = c.args.o.now in
-    let P : Bool → Type 0 = λ r. Decides r (Delays s o) in
-    let own : Tells s o (known_or_zero s.key) c.differ_with-own.result = subst (λ (v : Value). Tells s o v c.differ_with-own.result) (c.known_or_zero.ensures ∙ ap known_or_zero c.key.ensures) c.differ_with-own.ensures in
-    let other : Tells s o (known_or_zero o.key) c.differ_with-other.result = subst (λ (v : Value). Tells s o v c.differ_with-other.result) (c.known_or_zero-then-has_tied.ensures ∙ ap known_or_zero c.key-then-has_tied.ensures) c.differ_with-other.ensures in
-    subst P (sym c.is_any.ensures) (decide_tied s o _ _ _ _ c.bounds.ensures c.bounds-2.ensures (sym c.has_tied.ensures ∙ c.if-has_tied.true) c.differ_with-zero.ensures c.differ_with-one.ensures own other)
-
-pub returns-else-has_tied : goal.returns-else-has_tied
-returns-else-has_tied c = decide_free c.args.s.now c.args.o.now _ (sym c.has_tied.ensures ∙ c.if-has_tied.false) c.differ_with-zero.ensures
+pub returns-then-s-o : goal.returns-then-s-o
+returns-then-s-o c =
+    elim c.then-s-o.branch [
+      | then-s-o-via-then-s-o w ↦ of_two_tables c.args.s.now c.args.o.now
+          (λ e. w.if-s-o.true (ap (λ (z : Symbol). z.table) c.s.view_is ∙ e ∙ sym (ap (λ (z : Symbol). z.table) c.o.view_is)))
+      | then-s-o-via-else-s-o+then-have_other_keys w ↦ of_two_keys c.args.s.now c.args.o.now (w.have_other_keys.ensures w.if-have_other_keys.true)
+    ]

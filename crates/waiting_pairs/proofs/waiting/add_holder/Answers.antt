@@ -1,6 +1,21 @@
-use Rattle.waiting_pairs.specs.Waits.{at_point}
+use Rattle.std.proofs.Common.{◌≡◌, ℕ, ◌+◌, ap, subst, ◌∙◌, arith}
+use Rattle.check_meaning.specs.Code.{points}
+use Rattle.serve_reading.specs.Language.{File}
+use Rattle.serve_reading.specs.Resolved.{code_at}
+use Rattle.waiting_pairs.specs.Waits.{Adds, at_point, gather}
 use Rattle.waiting_pairs.proofs.Adding.{adds_gather}
 use Rattle.waiting_pairs.proofs.waiting.add_holder.Goals as goal
 
 pub loop-point-preserved : goal.loop-point-preserved
-loop-point-preserved c = adds_gather (at_point c.args.program.now c.args.asked.now c.args.holder) c.loop-point.point c.args.out.now.items c.loop-point.out.items c.add_point.new.out.items c.in_ok-add_point.ensures c.loop-point.invariant
+loop-point-preserved c = λ asked k.
+    let so_far = c.loop-point.invariant asked k in
+    let one = c.in_ok-add_point.ensures asked so_far.0 in
+    (one.0, adds_gather (at_point c.args.program.now asked c.args.holder) c.loop-point.point c.args.out.now.items c.loop-point.out.items c.add_point.new.out.items one.1 so_far.1)
+
+pub returns : goal.returns
+returns c = λ asked k.
+    let so_far = c.loop-point.invariant asked k in
+    let count : c.handler.result.now.points ≡ 1 + points (code_at c.args.program.now.file c.args.holder) =
+    c.handler.ensures.points ∙ ap (λ (f : File). 1 + points (code_at f c.args.holder)) c.checked.ensures.file in
+    let all : c.loop-point.point ≡ 1 + points (code_at c.args.program.now.file c.args.holder) = omega (arith, count, c.loop-point-test.false, c.loop-point.auto.point-end) in
+    (so_far.0, subst (λ (n : ℕ). Adds (gather (at_point c.args.program.now asked c.args.holder) n) c.args.out.now.items c.loop-point.out.items) all so_far.1)

@@ -1,6 +1,0 @@
-use Rattle.std.proofs.Common.{◌≡◌, take}
-use Rattle.delay_counts.specs.Rows.{firsts}
-use Rattle.delay_counts.proofs.counting.firsts.Given as goal
-
-abbrev pub invariant-loop-cause : goal.invariant-loop-cause
-invariant-loop-cause l = l.found.items ≡ firsts (take l.cause-index l.causes)

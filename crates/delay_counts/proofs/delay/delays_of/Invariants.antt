@@ -1,7 +1,0 @@
-use Rattle.std.proofs.Common.{◌≡◌, take}
-use Rattle.std.specs.List.{filter_map}
-use Rattle.delay_counts.specs.Delays.{delay_of}
-use Rattle.delay_counts.proofs.delay.delays_of.Given as goal
-
-abbrev pub invariant-loop-event : goal.invariant-loop-event
-invariant-loop-event l = l.delays.items ≡ filter_map delay_of (take l.event-index l.events)

@@ -1,7 +1,0 @@
-use Rattle.std.proofs.Common.{◌≡◌, map, take}
-use Rattle.serde_json.specs.View.{view}
-use Rattle.delay_counts.specs.Json.{ticket_value}
-use Rattle.delay_counts.proofs.json.chain_value.Given as goal
-
-abbrev pub invariant-loop-ticket : goal.invariant-loop-ticket
-invariant-loop-ticket l = map view l.values.items ≡ map ticket_value (take l.ticket-index l.chain)

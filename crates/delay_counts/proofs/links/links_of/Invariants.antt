@@ -1,7 +1,0 @@
-use Rattle.std.proofs.Common.{◌≡◌, take}
-use Rattle.std.specs.List.{filter_map}
-use Rattle.delay_counts.specs.Steps.{link_of}
-use Rattle.delay_counts.proofs.links.links_of.Given as goal
-
-abbrev pub invariant-loop-delay : goal.invariant-loop-delay
-invariant-loop-delay l = l.links.items ≡ filter_map (link_of l.tickets) (take l.delay-index l.delays)

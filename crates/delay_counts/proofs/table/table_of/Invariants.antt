@@ -1,5 +1,0 @@
-use Rattle.delay_counts.specs.Steps.{IsSettled, IsTable}
-use Rattle.delay_counts.proofs.table.table_of.Given as goal
-
-abbrev pub invariant-loop-link : goal.invariant-loop-link
-invariant-loop-link l = IsTable l.tickets l.table.items × IsSettled l.links l.link-index l.table.items

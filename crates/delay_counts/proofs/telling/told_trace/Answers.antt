@@ -1,4 +1,0 @@
-use Rattle.delay_counts.proofs.telling.told_trace.Goals as goal
-
-pub returns-clause-told : goal.returns-clause-told
-returns-clause-told c = record { audited = c.in_ok-audited.audited; is_audited = c.in_ok-audited.ensures.loaded; is_told = c.in_ok-text.ensures }

@@ -1,6 +1,0 @@
-use Rattle.std.proofs.Common.{◌≡◌, map, take}
-use Rattle.delay_counts.specs.Steps.{way}
-use Rattle.delay_counts.proofs.ways.ways.Given as goal
-
-abbrev pub invariant-loop-t : goal.invariant-loop-t
-invariant-loop-t l = map (λ w. w.items) l.ways.items ≡ map (way l.table) (take l.t-index l.heads)
