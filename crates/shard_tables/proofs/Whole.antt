@@ -1,5 +1,5 @@
 -- Whole tables, one of them read or written back.
-use Rattle.std.proofs.Common.{◌≡◌, Option, ℕ, zero, suc, ◌+◌, ◌<◌, ◌≤◌, length, take, drop, get_or, arith, List, [], ◌∷◌, ◌++◌, map, Some, refl, sym, ap, ◌∙◌, subst, slice_get, OnOk, OnErr, Result, Ok, Err}
+use Rattle.std.proofs.Common.{◌≡◌, Option, ℕ, zero, suc, ◌+◌, ◌<◌, ◌≤◌, length, take, drop, get_or, arith, List, [], ◌∷◌, ◌++◌, map, Some, refl, sym, ap, ◌∙◌, subst, slice_get, IsOk, OnOk, OnErr, Result, Ok, Err}
 use Rattle.std.proofs.Math.ListN.{set}
 use Rattle.std.proofs.lemmas.List.{drop_all, length-map, map-append}
 use Rattle.std.specs.Prelude.{slice_index_or}
@@ -14,6 +14,11 @@ use Rattle.shard_tables.specs.declared.part.Part.{Part}
 use Rattle.shard_tables.specs.Either.{with_entry}
 use Rattle.shard_tables.specs.Whole.{container_in, held}
 use Rattle.session_values.proofs.KindLemmas.{set-table}
+
+-- what is an error only where Q holds, is none where Q can't hold
+pub ok_unless : {T E Q : Type 0} (r : Result T E) → (Q → ⊥) → OnErr r Q → IsOk r
+ok_unless (Ok x) no h = refl
+ok_unless (Err y) no h = absurd (no h)
 
 -- the container of a kept table
 table-kept : (ts : List Part) (i : ℕ) (t : Part) → i < length ts → get_or ts i t ≡ t → table (held ts) i ≡ container_in t

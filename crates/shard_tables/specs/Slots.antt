@@ -1,5 +1,5 @@
 -- Where the keys of a list stand in a table of slots.
-use Rattle.std.specs.Prelude.{◌≡◌, ◌≢◌, ℕ, pos, negsuc, ◌+◌, ◌-◌, ◌*◌, ◌/◌, ◌%◌, ◌^◌, ◌<◌, ◌≤◌, ◌==◌, min, List, length, slice_index, slice_index_or, sum_by, nat_le, if◌then◌else◌, Option, Some, None}
+use Rattle.std.specs.Prelude.{◌≡◌, ◌≢◌, ℕ, pos, negsuc, ◌+◌, ◌-◌, ◌*◌, ◌/◌, ◌%◌, ◌^◌, ◌<◌, ◌≤◌, ◌==◌, bit_xor, min, List, length, slice_index, slice_index_or, sum_by, nat_le, if◌then◌else◌, Option, Some, None}
 use Rattle.session_values.specs.declared.value.Value.{Value}
 use Rattle.session_values.specs.declared.value.Value.TheVariants.{Nil, Num, Sym}
 
@@ -10,17 +10,32 @@ number_of (Num (pos n)) = n % 2 ^ 64
 number_of (Num (negsuc n)) = 2 ^ 64 - 1 - n % 2 ^ 64
 number_of (Sym place) = place + 2 ^ 63
 
--- the odd number that a seed spreads keys by
+-- the odd number that stands for a seed, by which keys are spread
 abbrev pub factor_of : ℕ → ℕ
 factor_of seed = ((2 * (seed * 11400714819323198485) + 1) * 11400714819323198485) % 2 ^ 64
 
+-- the exclusive or of a number with its bits from k up
+abbrev pub folded : ℕ → ℕ → ℕ
+folded k n = bit_xor n (n / 2 ^ k)
+
+-- a number of 64 bits mixed under a factor: the finaliser of the generator SplitMix64, in David
+-- Stafford's variant 13, but for its last step, which changes none of the upper 31 bits
+abbrev pub mixed : ℕ → ℕ → ℕ
+mixed factor n =
+    folded 27 (folded 30 (bit_xor n factor) * 0xbf58476d1ce4e5b9 % 2 ^ 64)
+    * 0x94d049bb133111eb % 2 ^ 64
+
+-- a number of 64 bits spread by a factor: times that of seed 0, mixed under any other
+abbrev pub spread : ℕ → ℕ → ℕ
+spread factor n = if factor == factor_of 0 then n * factor % 2 ^ 64 else mixed factor n
+
 -- the slot among 2 ^ bits at which the search for a key begins where keys are spread by a factor
 unfoldable pub start_by : ℕ → Value → ℕ → ℕ
-start_by factor key bits = (number_of key * factor) % 2 ^ 64 / 2 ^ (64 - bits)
+start_by factor key bits = spread factor (number_of key) / 2 ^ (64 - bits)
 
 -- the same where the seed is 0, which spreads keys by 11400714819323198485
 unfoldable pub start_of : Value → ℕ → ℕ
-start_of key bits = start_by (factor_of 0) key bits
+start_of key bits = number_of key * 11400714819323198485 % 2 ^ 64 / 2 ^ (64 - bits)
 
 -- how far slot s is past slot h, where the first of m slots follows the last
 unfoldable pub distance : ℕ → ℕ → ℕ → ℕ

@@ -1,8 +1,8 @@
 // Tables that are whole, for whoever has them alone.
 
-ghost use Rattle.std.specs.Prelude.{◌≡◌, ◌<◌, ◌++◌, ◌∷◌, [], IfOk, OnErr, OnOk, Some, length, map, slice_get};
+ghost use Rattle.std.specs.Prelude.{◌≡◌, ◌<◌, ◌++◌, ◌∷◌, [], IfOk, IsOk, OnErr, OnOk, Some, false, length, map, slice_get};
 ghost use Rattle.session_values.specs.Opening.{container_of, entries_of, tables_of};
-ghost use Rattle.session_values.specs.Kinds.{home};
+ghost use Rattle.session_values.specs.Kinds.{home, is_adding};
 ghost use Rattle.session_values.specs.Tables.{kind_of, reply, step};
 ghost use Rattle.shard_tables.specs.Whole.{container_in, held};
 
@@ -87,20 +87,22 @@ impl WholeTables {
 
     /// Adds a table behind the others.
     pub fn push(&mut self, part: Part) -> Result<(), NoMemory>
-        ensures { OnOk result (self.new ≡ self.old ++ container_in part ∷ []) }
+        ensures tables { OnOk result (self.new ≡ self.old ++ container_in part ∷ []) }
+        ensures err { OnErr result (self.new ≡ self.old) }
     {
         self.parts.push(part)?;
         Ok(())
     }
 
-    /// Does one operation, and answers its reply. One that may add a key to a full table is want of
-    /// memory.
+    /// Does one operation, and answers its reply. One that may add a key to a full table is out of
+    /// memory, whatever the key; no other one is.
     pub fn apply(&mut self, op: Op) -> Result<Value, NoMemory>
         // The table exists and has the operation's kind of container.
         requires fits { slice_get (map kind_of self.old) op.table ≡ Some (home op.kind) }
         ensures reply { IfOk result (λ value. value ≡ reply self.old op) }
         ensures tables { OnOk result (self.new ≡ step self.old op) }
         ensures err { OnErr result (self.new ≡ self.old) }
+        ensures sure { is_adding op.kind ≡ false → IsOk result }
         ensures kinds { map kind_of self.new ≡ map kind_of self.old }
     {
         self.parts[op.table as usize].try_apply(op)

@@ -43,18 +43,21 @@ fn seeded_searches_begin_at_their_slots(rt: HostRuntime) {
         start_slot_by(factor, Num(-1), 4),
         start_slot_by(factor, Sym(1), 4),
     ];
-    assert!(rt; slots == [0, 5, 11, 10, 13]);
+    assert!(rt; slots == [4, 5, 2, 1, 5]);
     assert!(rt; seed_factor(0) == 11400714819323198485);
 }
 
-// How many slots the searches look at for a thousand keys that begin at slot 0 without a seed.
-fn looked_at_multiples(shard: &mut MapShard) -> u64 {
+// Multiples of it begin at slot 0 where they are spread by nothing but the factor of seed 1.
+const SEED_STEP: i64 = 2569339136011888183;
+
+// How many slots the searches look at for a thousand multiples of a number.
+fn looked_at_multiples(shard: &mut MapShard, step: i64) -> u64 {
     let mut sum = 0u64;
     for i in 0..1000i64 {
-        on_map(shard, op_of(Kind::Put, Num(i.wrapping_mul(STEP)), Nil));
+        on_map(shard, op_of(Kind::Put, Num(i.wrapping_mul(step)), Nil));
     }
     for i in 0..1000i64 {
-        sum = sum.wrapping_add(u64::from(shard.probes(Num(i.wrapping_mul(STEP)))));
+        sum = sum.wrapping_add(u64::from(shard.probes(Num(i.wrapping_mul(step)))));
     }
     sum
 }
@@ -64,10 +67,12 @@ fn a_seed_parts_chosen_keys(rt: HostRuntime) {
     let alloc = rt.alloc();
     let mut plain = MapShard::with_room(alloc, 1000).expect(&rt, "memory");
     let mut seeded = MapShard::with_seed(alloc, 1000, 1).expect(&rt, "memory");
-    assert!(rt; looked_at_multiples(&mut plain) == 500500);
-    assert!(rt; looked_at_multiples(&mut seeded) == 1000);
+    assert!(rt; looked_at_multiples(&mut plain, STEP) == 500500);
+    assert!(rt; looked_at_multiples(&mut seeded, STEP) == 1506);
     let mut wide = seeded.grown(alloc, 4000).expect(&rt, "memory");
-    assert!(rt; looked_at_multiples(&mut wide) == 1000);
+    assert!(rt; looked_at_multiples(&mut wide, STEP) == 1063);
+    let mut other = MapShard::with_seed(alloc, 1000, 1).expect(&rt, "memory");
+    assert!(rt; looked_at_multiples(&mut other, SEED_STEP) == 1522);
 }
 
 #[test]

@@ -13,7 +13,7 @@ loop-table-preserved g c =
     let lists = g.T.TellsOpening.opened c.args.told.now in
     let low : c.loop-table.table < length shape = omega (arith, c.loop-table-test.true, c.in-Ok.ensures.1) in
     let first : Tables = tables_of (take c.loop-table.table shape) lists in
-    c.in_ok-push.ensures
+    c.in_ok-push.ensures.tables
     ∙ ap (λ (cs : Tables). cs ++ container_in c.in_ok-part.part ∷ []) c.loop-table.invariant
     ∙ ap (λ (x : Container). first ++ x ∷ []) c.in_ok-part.ensures
     ∙ filled_more shape lists c.loop-table.table low
