@@ -1,5 +1,5 @@
 -- Whole tables, one of them read or written back.
-use Rattle.std.proofs.Common.{◌≡◌, Option, ℕ, zero, suc, ◌+◌, ◌<◌, ◌≤◌, length, take, drop, get_or, arith, List, [], ◌∷◌, ◌++◌, map, Some, refl, sym, ap, ◌∙◌, subst, slice_get, IsOk, OnOk, OnErr, Result, Ok, Err}
+use Rattle.std.proofs.Common.{◌≡◌, ℕ, zero, suc, ◌+◌, ◌<◌, ◌≤◌, length, take, drop, get_or, arith, List, [], ◌∷◌, ◌++◌, map, Some, refl, sym, ap, ◌∙◌, subst, slice_get, IsOk, OnErr, Result, Ok, Err}
 use Rattle.std.proofs.Math.ListN.{set}
 use Rattle.std.proofs.lemmas.List.{drop_all, length-map, map-append}
 use Rattle.std.specs.Prelude.{slice_index_or}
@@ -17,8 +17,8 @@ use Rattle.session_values.proofs.KindLemmas.{set-table}
 
 -- what is an error only where Q holds, is none where Q can't hold
 pub ok_unless : {T E Q : Type 0} (r : Result T E) → (Q → ⊥) → OnErr r Q → IsOk r
-ok_unless (Ok x) no h = refl
-ok_unless (Err y) no h = absurd (no h)
+ok_unless (Ok x) never h = refl
+ok_unless (Err y) never h = absurd (never h)
 
 -- the container of a kept table
 table-kept : (ts : List Part) (i : ℕ) (t : Part) → i < length ts → get_or ts i t ≡ t → table (held ts) i ≡ container_in t
