@@ -12,13 +12,7 @@ use Rattle.client_feed.specs.Ends.{ArrivalsView, GathererView, HasGathered}
 use Rattle.client_feed.specs.Behind.{IsServedBehind}
 use Rattle.client_feed.specs.Picking.{AreArrivals}
 use Rattle.client_feed.proofs.Between.{IsBetween, came_is, drawn_on}
-use Rattle.client_feed.proofs.Sessions.{asked}
-
-take_whole : {X : Type 0} (xs : List X) (i : ℕ) → length xs ≤ i → take i xs ≡ xs
-take_whole [] zero l = (λ j. [])
-take_whole [] (suc i) l = (λ j. [])
-take_whole (x ∷ xs) zero l = absurd (omega (arith, l))
-take_whole (x ∷ xs) (suc i) l = ap (λ ys. x ∷ ys) (take_whole xs i (omega (arith, l)))
+use Rattle.client_feed.proofs.Sessions.{asked, take_whole}
 
 -- a list that is written from its beginning on is as long as before
 pub kept_long : (n : ℕ) (xs ys : List ℕ) → length ys ≡ n → length xs ≡ n → length (take n (xs ++ drop (length xs) ys)) ≡ n
