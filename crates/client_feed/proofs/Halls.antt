@@ -1,7 +1,7 @@
 -- The halls of the rounds: one round more leaves those before it as they were.
-use Rattle.std.proofs.Common.{◌≡◌, ℕ, suc, ◌+◌, ◌-◌, ◌<◌, ◌≤◌, ◌⊎◌, inl, inr, List, [], ◌∷◌, ◌++◌, length, length-append, length-drop, slice_get, take, drop, Option, Some, None, is_some, true, nat_lt, refl, sym, ap, ◌∙◌, subst, cc, arith}
+use Rattle.std.proofs.Common.{◌≡◌, ℕ, suc, ◌+◌, ◌-◌, ◌<◌, ◌≤◌, ◌⊎◌, inl, inr, List, [], ◌∷◌, ◌++◌, length, length-append, length-drop, slice_get, take, drop, Option, Some, None, is_some, true, nat_lt, refl, sym, ap, ◌∙◌, subst, arith}
 use Rattle.std.proofs.lemmas.Bool.Decides.{nat_tests}
-use Rattle.std.proofs.lemmas.List.{drop-append-le, take-append-le}
+use Rattle.std.proofs.lemmas.List.{drop-append-le, take-append-le, take_all}
 use Rattle.std.proofs.lemmas.Option.{slice_get_within}
 use Rattle.session_values.proofs.Options.{get_front, get_last, stands}
 use Rattle.session_values.specs.Serial.{tables_before}
@@ -13,7 +13,7 @@ use Rattle.request_files.specs.Clients.{ClientsView}
 use Rattle.handler_machine.specs.Scripts.{meaning}
 use Rattle.client_feed.specs.Arrival.{Arrival}
 use Rattle.client_feed.specs.Rounds.{AreRounds, IsRound, last_hall, round_begin, session_by}
-use Rattle.client_feed.proofs.Sessions.{asked, dropped, front_before, take_whole}
+use Rattle.client_feed.proofs.Sessions.{asked, dropped, front_before}
 
 -- the last of a list with one more
 pub last_pushed : (halls : List ClosedView) (d : ClosedView) → last_hall (halls ++ d ∷ []) ≡ Some d
@@ -35,7 +35,7 @@ pub last_arrivals : (got more : List Arrival) (k : ℕ) → length got ≡ k →
 last_arrivals got more k at few =
     ap (λ (n : ℕ). take 256 (drop n (got ++ more))) (sym at)
     ∙ ap (λ (xs : List Arrival). take 256 xs) (dropped got more)
-    ∙ take_whole more 256 few
+    ∙ take_all 256 more few
 
 module _ (p : ProgramView) (opened : List (List Pair)) (clients : ClientsView) (callers shards : ℕ) where
   abbrev Rounds : List Arrival → List ClosedView → Type 0

@@ -50,12 +50,6 @@ pub dropped : {X : Type 0} (xs ys : List X) → drop (length xs) (xs ++ ys) ≡ 
 dropped [] ys = refl
 dropped (x ∷ xs) ys = dropped xs ys
 
-pub take_whole : {X : Type 0} (xs : List X) (i : ℕ) → length xs ≤ i → take i xs ≡ xs
-take_whole [] zero l = (λ j. [])
-take_whole [] (suc i) l = (λ j. [])
-take_whole (x ∷ xs) zero l = absurd (omega (arith, l))
-take_whole (x ∷ xs) (suc i) l = ap (λ ys. x ∷ ys) (take_whole xs i (omega (arith, l)))
-
 module _ (clients : ClientsView) where
   -- the requests of arrivals
   abbrev pub asked : List Arrival → List Request
