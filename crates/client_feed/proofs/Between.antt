@@ -32,18 +32,32 @@ use Rattle.client_feed.specs.Ends.{ArrivalsView, GathererView, HasGathered}
 use Rattle.client_feed.specs.Numbers.{numbers_of}
 use Rattle.client_feed.specs.Behind.{IsServedBehind}
 use Rattle.client_feed.specs.Reopening.{CanReopen, Reopens, final_of}
-use Rattle.client_feed.specs.Rounds.{AreServed, IsLastRound, round_begin, session_by}
+use Rattle.client_feed.specs.Rounds.{AreRounds, AreServed, last_hall, round_begin, session_by}
 use Rattle.client_feed.proofs.DrawnNumbers.{arrivals_numbered}
+use Rattle.client_feed.proofs.Halls.{hall_more, last_arrivals, last_pushed, no_halls}
 use Rattle.client_feed.proofs.KeyCounts.{keys_before, keys_each, keys_in, opening_keys}
 use Rattle.client_feed.proofs.Sessions.{asked, asked_many, dropped, front_tables, joined, later_replies, later_tables}
 use Rattle.client_feed.proofs.TableLists.{final_long}
 
--- what arrived so far was served, with the replies of serving it one at a time in that order
-pub record AreServedSoFar (p : ProgramView) (opened : List (List Pair)) (clients : ClientsView) (callers shards : ℕ) (got : List Arrival) (replies : List Reply) (closed : Option ClosedView) : Type 0 where
+-- the hall of the last round: it served the arrivals from the round's beginning on
+pub record IsLastRound (p : ProgramView) (opened : List (List Pair)) (clients : ClientsView) (got : List Arrival) (callers shards : ℕ) (d : ClosedView) : Type 0 where
+  pub before : ℕ
+  pub some : before < length got
+  pub opening : List (List Pair)
+  pub opening_is : tables_of (shape_of p.file) opening ≡ tables_before (session_by p opened clients got) before
+  pub done : IsDone (meaning (record { program = p; opening = opening; requests = asked clients (drop before got) })) d
+  pub callers_are : d.callers ≡ callers
+  pub shards_are : d.shards ≡ shards
+
+-- what arrived so far was served through these halls, with the replies of serving it one at a time in
+-- that order
+pub record AreServedSoFar (p : ProgramView) (opened : List (List Pair)) (clients : ClientsView) (callers shards : ℕ) (got : List Arrival) (replies : List Reply) (closed : Option ClosedView) (halls : List ClosedView) : Type 0 where
   pub drawn : IsDrawn clients.counts got
   pub replies_are : replies ≡ serial_replies (session_by p opened clients got) (length got)
   pub last : is_some closed ≡ nat_lt 0 (length got)
   pub hall : IfSome closed (IsLastRound p opened clients got callers shards)
+  pub rounds : AreRounds p opened clients got callers shards halls
+  pub left : closed ≡ last_hall halls
 
 -- ---- the calls of requests, one after another
 all_calls : (f : File) (rs : List Request) → sum_below (length rs) (λ t. calls_bound (code_at f (request_at rs t).handler)) ≡ calls_in_all f rs
@@ -134,17 +148,18 @@ module _ (p : ProgramView) (opened : List (List Pair)) (clients : ClientsView) (
   opens_next got (Some b) opening some h is = is.same (script h.opening (drop h.before got)) h.done refl ∙ left_here got b h
 
   -- one round more
-  pub one_round_more : (got more : List Arrival) (replies : List Reply) (last : Option ClosedView) (d : ClosedView) → AreServedSoFar p opened clients callers shards got replies last
+  pub one_round_more : (got more : List Arrival) (replies : List Reply) (last : Option ClosedView) (halls : List ClosedView) (d : ClosedView) → AreServedSoFar p opened clients callers shards got replies last halls
       → IsServedBehind p opened last (asked clients more) callers shards d → IsDrawn clients.counts (got ++ more) → 0 < length more
-      → (rounds : ℕ) → length got ≡ round_begin rounds → length got + length more ≤ round_begin (suc rounds)
-      → AreServedSoFar p opened clients callers shards (got ++ more) (replies ++ d.replies) (Some d)
-  one_round_more got more replies last d so_far behind drawn some rounds begins few =
+      → length got ≡ round_begin (length halls) → length got + length more ≤ round_begin (suc (length halls))
+      → AreServedSoFar p opened clients callers shards (got ++ more) (replies ++ d.replies) (Some d) (halls ++ d ∷ [])
+  one_round_more got more replies last halls d so_far behind drawn some begins few =
       let n : ℕ = length got in
       let opens = opens_next got last behind.opening so_far.last so_far.hall behind.opens ∙ sym (front_tables p opened clients got more) in
       let whole = length-append got more in
       let done = behind.served.done in
       let many = asked_many clients more in
       let Q : List Arrival → Type 0 = λ xs. IsDone (script behind.opening xs) d in
+      let B : ℕ → Type 0 = λ k. tables_of (shape_of p.file) behind.opening ≡ tables_before (by (got ++ more)) k in
       record {
         drawn = drawn;
         replies_are =
@@ -153,37 +168,43 @@ module _ (p : ProgramView) (opened : List (List Pair)) (clients : ClientsView) (
             ∙ ap (λ (k : ℕ). serial_replies (by (got ++ more)) k) (let e : n + length (asked clients more) ≡ length (got ++ more) = omega (arith, whole, many) in e);
         last = some_there (length (got ++ more)) (omega (arith, whole, some));
         hall = record {
-          rounds = rounds;
           before = n;
-          before_is = begins;
           some = omega (arith, whole, some);
-          few = omega (arith, whole, few);
           opening = behind.opening;
           opening_is = opens;
           done = subst Q (sym (dropped got more)) done;
           callers_are = behind.served.callers_are;
           shards_are = behind.served.shards_are;
         };
+        rounds = hall_more p opened clients callers shards got more halls d so_far.rounds begins (omega (arith, whole, few)) (record {
+          some = omega (arith, whole, some, begins);
+          opening = behind.opening;
+          opening_is = subst B begins opens;
+          done = subst Q (sym (last_arrivals got more (round_begin (length halls)) begins (omega (arith, begins, few)))) done;
+          callers_are = behind.served.callers_are;
+          shards_are = behind.served.shards_are;
+        });
+        left = sym (last_pushed halls d);
       }
 
   -- before the first round
-  pub none_served : AreServedSoFar p opened clients callers shards [] [] None
-  none_served = record { drawn = λ q. (0, refl, omega arith); replies_are = refl; last = refl; hall = tt }
+  pub none_served : AreServedSoFar p opened clients callers shards [] [] None []
+  none_served = record { drawn = λ q. (0, refl, omega arith); replies_are = refl; last = refl; hall = tt; rounds = no_halls p opened clients callers shards; left = refl }
 
   -- behind the last
-  pub all_served : (got : List Arrival) (replies : List Reply) (last : Option ClosedView) → AreServedSoFar p opened clients callers shards got replies last → length got ≡ sum clients.counts
+  pub all_served : (got : List Arrival) (replies : List Reply) (last : Option ClosedView) (halls : List ClosedView) → AreServedSoFar p opened clients callers shards got replies last halls → length got ≡ sum clients.counts
       → AreServed p opened clients callers shards (record { arrivals = got; replies = replies; closed = last })
-  all_served got replies last h all = record { drawn = h.drawn; all = all; replies = h.replies_are; last = h.last; hall = h.hall }
+  all_served got replies last halls h all = record { drawn = h.drawn; all = all; replies = h.replies_are; halls = halls; rounds = h.rounds; left = h.left }
 
 -- ---- the state between two rounds
 -- some rounds were served; there is room for all arrivals and replies
 pub record IsBetween (p : ProgramView) (opened : List (List Pair)) (clients : ClientsView) (callers shards : ℕ) (g : GathererView) (a : ArrivalsView) (replies : List Reply) (room : ℕ) (closed : Option ClosedView) : Type 0 where
-  pub rounds : ℕ
+  pub halls : List ClosedView
   pub gatherer_is : g ≡ record { counts = clients.counts; got = a.list }
   pub arrival_room : a.room ≡ sum clients.counts
   pub reply_room : sum clients.counts ≤ room
-  pub many : length a.list ≡ min (round_begin rounds) (sum clients.counts)
-  pub so_far : AreServedSoFar p opened clients callers shards a.list replies closed
+  pub many : length a.list ≡ min (round_begin (length halls)) (sum clients.counts)
+  pub so_far : AreServedSoFar p opened clients callers shards a.list replies closed halls
 
 module _ (p : ProgramView) (opened : List (List Pair)) (clients : ClientsView) (callers shards : ℕ) where
   abbrev At : GathererView → ArrivalsView → List Reply → ℕ → Option ClosedView → Type 0
@@ -193,7 +214,7 @@ module _ (p : ProgramView) (opened : List (List Pair)) (clients : ClientsView) (
   pub first_between : (g : GathererView) (a : ArrivalsView) (replies : List Reply) (room : ℕ) (closed : Option ClosedView) → g ≡ record { counts = clients.counts; got = [] } → a ≡ record { list = []; room = sum clients.counts } → replies ≡ [] → sum clients.counts ≤ room → closed ≡ None → At g a replies room closed
   first_between g a replies room closed g_is a_is none fits no_hall =
       let start : At (record { counts = clients.counts; got = [] }) (record { list = []; room = sum clients.counts }) [] room None = record {
-        rounds = 0;
+        halls = [];
         gatherer_is = refl;
         arrival_room = refl;
         reply_room = fits;
@@ -241,19 +262,19 @@ module _ (p : ProgramView) (opened : List (List Pair)) (clients : ClientsView) (
 
       module _ (left : ℕ) (left_is : left + length g.got ≡ sum g.counts) (some : 0 < left) (either : (256 ≤ left → most ≡ 256) × (left ≤ 256 → most ≡ left)) where
         record Counted : Type 0 where
-          begins : length a.list ≡ round_begin now.rounds
+          begins : length a.list ≡ round_begin (length now.halls)
           came_some : 0 < length came
-          came_few : length a.list + length came ≤ round_begin (suc now.rounds)
-          all_many : length a.list + length came ≡ min (round_begin (suc now.rounds)) (sum clients.counts)
+          came_few : length a.list + length came ≤ round_begin (suc (length now.halls))
+          all_many : length a.list + length came ≡ min (round_begin (suc (length now.halls))) (sum clients.counts)
 
         cases : (x y : ℕ) → (x ≤ y) ⊎ (y ≤ x)
         cases x y = grind arith
 
-        at_begin : length a.list ≡ round_begin now.rounds
+        at_begin : length a.list ≡ round_begin (length now.halls)
         at_begin = let many = now.many in let got = ap (λ (xs : List Arrival). length xs) got_is in omega (arith, many, got, total_is, left_is, some)
 
         -- how far the next one begins behind it
-        size_is : length a.list + 256 ≡ round_begin (suc now.rounds)
+        size_is : length a.list + 256 ≡ round_begin (suc (length now.halls))
         size_is = omega (arith, at_begin)
 
         counted : Counted
@@ -289,20 +310,21 @@ module _ (p : ProgramView) (opened : List (List Pair)) (clients : ClientsView) (
 
           pub next_between : (more : List Reply) (room_now : ℕ) (next : Option ClosedView) → IsDrawn h.counts h.got → more ≡ replies ++ d.replies → room_now ≡ room → next ≡ Some d → At h b more room_now next
           next_between more room_now next d_on more_is room_is next_is = record {
-            rounds = suc now.rounds;
+            halls = now.halls ++ d ∷ [];
             gatherer_is = (λ i. record { counts = (gathered.counts ∙ counts_are) i; got = (gathered.got ∙ ap (λ (xs : List Arrival). xs ++ came) got_is ∙ sym gathered.list) i });
             arrival_room = gathered.room ∙ now.arrival_room;
             reply_room = omega (arith, now.reply_room, room_is);
-            many = ap (λ (xs : List Arrival). length xs) gathered.list ∙ length-append a.list came ∙ counted.all_many;
+            many = ap (λ (xs : List Arrival). length xs) gathered.list ∙ length-append a.list came ∙ counted.all_many
+                ∙ ap (λ (k : ℕ). min (round_begin k) (sum clients.counts)) (let long = length-append now.halls (d ∷ []) in let more : suc (length now.halls) ≡ length (now.halls ++ d ∷ []) = omega (arith, long) in more);
             so_far =
-                subst (λ (xs : List Arrival). AreServedSoFar p opened clients callers shards xs more next) (sym gathered.list)
-                (subst (λ (rs : List Reply). AreServedSoFar p opened clients callers shards (a.list ++ came) rs next) (sym more_is)
-                (subst (λ (o : Option ClosedView). AreServedSoFar p opened clients callers shards (a.list ++ came) (replies ++ d.replies) o) (sym next_is)
-                (one_round_more p opened clients callers shards a.list came replies closed d now.so_far behind (drawn_on d_on) counted.came_some now.rounds counted.begins counted.came_few)));
+                subst (λ (xs : List Arrival). AreServedSoFar p opened clients callers shards xs more next (now.halls ++ d ∷ [])) (sym gathered.list)
+                (subst (λ (rs : List Reply). AreServedSoFar p opened clients callers shards (a.list ++ came) rs next (now.halls ++ d ∷ [])) (sym more_is)
+                (subst (λ (o : Option ClosedView). AreServedSoFar p opened clients callers shards (a.list ++ came) (replies ++ d.replies) o (now.halls ++ d ∷ [])) (sym next_is)
+                (one_round_more p opened clients callers shards a.list came replies closed now.halls d now.so_far behind (drawn_on d_on) counted.came_some counted.begins counted.came_few)));
           }
 
   -- behind the last round
   pub last_between : (g : GathererView) (a : ArrivalsView) (replies : List Reply) (room : ℕ) (closed : Option ClosedView) → At g a replies room closed → length g.got ≡ sum g.counts → AreServed p opened clients callers shards (record { arrivals = a.list; replies = replies; closed = closed })
   last_between g a replies room closed now all =
-      all_served p opened clients callers shards a.list replies closed now.so_far
+      all_served p opened clients callers shards a.list replies closed now.halls now.so_far
       (let got = ap (λ (v : GathererView). length v.got) now.gatherer_is in let total = ap (λ (v : GathererView). sum v.counts) now.gatherer_is in omega (arith, all, got, total))

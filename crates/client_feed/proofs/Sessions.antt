@@ -1,6 +1,6 @@
 -- Sessions in which the same is asked of the same tables, and a session whose tickets are drawn in the
 -- order of arrivals, in two parts.
-use Rattle.std.proofs.Common.{◌≡◌, ℕ, zero, suc, ◌+◌, ◌<◌, List, [], ◌∷◌, ◌++◌, length, take, drop, refl, sym, ap, ◌∙◌, arith}
+use Rattle.std.proofs.Common.{◌≡◌, ℕ, zero, suc, ◌+◌, ◌<◌, ◌≤◌, List, [], ◌∷◌, ◌++◌, length, take, drop, refl, sym, ap, ◌∙◌, arith}
 use Rattle.session_values.specs.declared.reply.Reply.{Reply}
 use Rattle.session_values.specs.Serial.{Session, answered, serial_replies, serve, tables_before}
 use Rattle.session_values.specs.Opening.{Pair, tables_of}
@@ -80,8 +80,11 @@ module _ (p : ProgramView) (opened : List (List Pair)) (clients : ClientsView) w
     front_alike : Alike (length got) (by (got ++ more)) (by got)
     front_alike t l = same_request (request_at (asked clients (got ++ more)) t) (request_at (asked clients got) t) (front_at clients got more t l)
 
+    pub front_before : (k : ℕ) → k ≤ length got → tables_before (by (got ++ more)) k ≡ tables_before (by got) k
+    front_before k few = tables_alike k (by (got ++ more)) (by got) refl (λ t l. front_alike t (omega (arith, l, few)))
+
     pub front_tables : tables_before (by (got ++ more)) (length got) ≡ tables_before (by got) (length got)
-    front_tables = tables_alike (length got) (by (got ++ more)) (by got) refl front_alike
+    front_tables = front_before (length got) (omega arith)
 
     -- the session of what arrives later, over tables that open as those before left theirs
     module _ (opening : List (List Pair)) (opens : tables_of (shape_of p.file) opening ≡ tables_before (by (got ++ more)) (length got)) where

@@ -1,6 +1,6 @@
 -- What came in a round, as a slice of all arrivals.
-use Rattle.std.proofs.Common.{◌≡◌, ℕ, zero, suc, ◌-◌, ◌≤◌, List, [], ◌∷◌, ◌++◌, length, length-append, length-drop, take, drop, Option, sym, ap, ◌∙◌, subst, arith}
-use Rattle.std.proofs.lemmas.List.{length-take-le}
+use Rattle.std.proofs.Common.{◌≡◌, ℕ, ◌-◌, ◌≤◌, List, ◌++◌, length, length-append, length-drop, take, drop, Option, sym, ap, ◌∙◌, subst, arith}
+use Rattle.std.proofs.lemmas.List.{length-take-le, take_all}
 use Rattle.session_values.specs.declared.reply.Reply.{Reply}
 use Rattle.session_values.specs.Opening.{Pair}
 use Rattle.session_hall.specs.Closings.{ClosedView}
@@ -14,12 +14,6 @@ use Rattle.client_feed.specs.Picking.{AreArrivals}
 use Rattle.client_feed.proofs.Between.{IsBetween, came_is, drawn_on}
 use Rattle.client_feed.proofs.Sessions.{asked}
 
-take_whole : {X : Type 0} (xs : List X) (i : ℕ) → length xs ≤ i → take i xs ≡ xs
-take_whole [] zero l = (λ j. [])
-take_whole [] (suc i) l = (λ j. [])
-take_whole (x ∷ xs) zero l = absurd (omega (arith, l))
-take_whole (x ∷ xs) (suc i) l = ap (λ ys. x ∷ ys) (take_whole xs i (omega (arith, l)))
-
 -- a list that is written from its beginning on is as long as before
 pub kept_long : (n : ℕ) (xs ys : List ℕ) → length ys ≡ n → length xs ≡ n → length (take n (xs ++ drop (length xs) ys)) ≡ n
 kept_long n xs ys old new = length-take-le n (xs ++ drop (length xs) ys) (omega (arith, length-append xs (drop (length xs) ys), length-drop (length xs) ys, old, new))
@@ -30,7 +24,7 @@ module _ (p : ProgramView) (opened : List (List Pair)) (clients : ClientsView) (
 
   slice_is : slice ≡ gathered.arrivals
   slice_is =
-      take_whole (drop k xs) (length xs - k) (omega (arith, length-drop k xs))
+      take_all (length xs - k) (drop k xs) (omega (arith, length-drop k xs))
       ∙ (λ i. drop (k_is i) (xs_is i))
       ∙ came_is p opened clients callers shards g h a b replies room closed now most gathered
 

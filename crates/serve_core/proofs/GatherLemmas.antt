@@ -1,7 +1,6 @@
 -- What `clients` answers, from what was loaded, served in rounds and written.
 use Rattle.std.proofs.Common.{◌≡◌, ℕ, zero, suc, ◌≤◌, Bool, ◌&&◌, true, false, nat_lt, is_some, List, [], ◌∷◌, length, sum, Option, Some, None, refl, sym, ap, ◌∙◌, subst, arith}
 use Rattle.std.proofs.lemmas.List.{length-map}
-use Rattle.std.specs.Prelude.{IfSome}
 use Rattle.session_values.specs.Limits.{max_requests}
 use Rattle.session_values.specs.declared.reply.Reply.{Reply}
 use Rattle.session_values.specs.Serial.{Session, serial, serial_replies}
@@ -22,7 +21,8 @@ use Rattle.reply_sheet.specs.declared.arrival.Arrival.{Arrival}
 use Rattle.reply_sheet.specs.Arrivals.{IsDrawn}
 use Rattle.reply_sheet.specs.ClientText.{clients_text}
 use Rattle.reply_sheet.specs.Numbers.{numbers_of}
-use Rattle.client_feed.specs.Rounds.{AreServed, IsLastRound, ServedView, session_by}
+use Rattle.client_feed.specs.Rounds.{AreRounds, AreServed, ServedView, last_hall, session_by}
+use Rattle.client_feed.proofs.Halls.{some_hall}
 use Rattle.serve_words.specs.declared.command.Command.TheVariants.{Clients}
 use Rattle.serve_faults.specs.declared.status.Status.{Status}
 use Rattle.serve_faults.specs.declared.status.Status.TheVariants as status
@@ -122,16 +122,16 @@ module _ {O : Type 0} (callers shards : ℕ) (input : List ℕ) (out : Change O)
     is_text : IsClientsText input (text_of_arrivals input file got)
     is_text = record { file = file; is_session = is_session; got = got; drawn = drawn; all = all; text_is = refl }
 
-    -- the last round is one of the input's session
-    last_of : (d : ClosedView) → IsLastRound l.program l.opening l.clients got callers shards d → IsLastRound l.program (opened_of (client_parts input) file) (record { requests = requests_of (client_parts input) file; counts = client_counts input }) got callers shards d
-    last_of d r =
-        let one = subst (λ (o : List (List Pair)). IsLastRound l.program o l.clients got callers shards d) h.is_session.opening_is r in
-        let two = subst (λ (rs : List Request). IsLastRound l.program (opened_of (client_parts input) file) (record { requests = rs; counts = l.clients.counts }) got callers shards d) h.is_session.requests_are one in
-        subst (λ (cs : List ℕ). IsLastRound l.program (opened_of (client_parts input) file) (record { requests = requests_of (client_parts input) file; counts = cs }) got callers shards d) h.counts_are two
+    -- the rounds are of the input's session
+    rounds_of : (halls : List ClosedView) → AreRounds l.program l.opening l.clients got callers shards halls → AreRounds l.program (opened_of (client_parts input) file) (record { requests = requests_of (client_parts input) file; counts = client_counts input }) got callers shards halls
+    rounds_of halls r =
+        let one = subst (λ (o : List (List Pair)). AreRounds l.program o l.clients got callers shards halls) h.is_session.opening_is r in
+        let two = subst (λ (rs : List Request). AreRounds l.program (opened_of (client_parts input) file) (record { requests = rs; counts = l.clients.counts }) got callers shards halls) h.is_session.requests_are one in
+        subst (λ (cs : List ℕ). AreRounds l.program (opened_of (client_parts input) file) (record { requests = requests_of (client_parts input) file; counts = cs }) got callers shards halls) h.counts_are two
 
-    holds : (s : Status) (o : Option ClosedView) → (s ≡ status.Fine → WroteAll out (text_of_arrivals input file got)) → (s ≡ status.WriteFault → WrotePrefix out (text_of_arrivals input file got)) → IfSome o (IsLastRound l.program l.opening l.clients got callers shards) → Holds (Some (Clients callers shards)) input out s o
-    holds s None took front r = tt
-    holds s (Some d) took front r = record { file = file; is_session = is_session; got = got; drawn = drawn; all = all; last = last_of d r; took = took; front = front }
+    holds : (s : Status) (o : Option ClosedView) → (s ≡ status.Fine → WroteAll out (text_of_arrivals input file got)) → (s ≡ status.WriteFault → WrotePrefix out (text_of_arrivals input file got)) → o ≡ last_hall a.halls → Holds (Some (Clients callers shards)) input out s o
+    holds s None took front left = tt
+    holds s (Some d) took front left = record { file = file; is_session = is_session; got = got; drawn = drawn; all = all; halls = a.halls; rounds = rounds_of a.halls a.rounds; last = left; took = took; front = front }
 
     and_true : (b c : Bool) → c ≡ true → b ≡ (b && c)
     and_true true c e = sym e
@@ -144,8 +144,8 @@ module _ {O : Type 0} (callers shards : ℕ) (input : List ℕ) (out : Change O)
     answered s closed_is e b took front =
         ends_to (Clients callers shards) input out (text_of_arrivals input file got) i is_text s closed
         (subst (λ (t : List ℕ). EndsBy t out s) text_is e)
-        (opens s (ap is_some closed_is ∙ a.last) b)
-        (holds s closed took front (subst (λ (o : Option ClosedView). IfSome o (IsLastRound l.program l.opening l.clients got callers shards)) (sym closed_is) a.hall))
+        (opens s (ap is_some (closed_is ∙ a.left) ∙ some_hall l.program l.opening l.clients callers shards got a.halls a.rounds) b)
+        (holds s closed took front (closed_is ∙ a.left))
         (λ w _. absurd (false≢true w))
 
   -- what becomes of what was loaded is what `clients` answers

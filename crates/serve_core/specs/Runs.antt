@@ -4,7 +4,7 @@ use Rattle.std.specs.Prelude.{◌≡◌, ℕ, Bool, ◌&&◌, true, false, is_so
 use Rattle.serve_words.specs.declared.command.Command.{Command}
 use Rattle.reply_sheet.specs.declared.arrival.Arrival.{Arrival}
 use Rattle.reply_sheet.specs.Arrivals.{IsDrawn}
-use Rattle.client_feed.specs.Rounds.{IsLastRound}
+use Rattle.client_feed.specs.Rounds.{AreRounds, last_hall}
 use Rattle.session_journal.specs.Symbol.{Symbol}
 use Rattle.session_journal.specs.declared.event.Event.{Event}
 use Rattle.session_journal.specs.Script.{Meaning, session_of}
@@ -51,8 +51,9 @@ pub record IsServedThrough (command : Command) (input : List ℕ) (closed : Clos
   pub shards_are : closed.shards ≡ shards_of command
 
 -- The requests of the input's clients arrived in this order, all of them and each client's in its
--- own, and were served so, in rounds, the last of them through this hall. Where the run ended well,
--- it wrote the replies that they have in this order; where the sink failed, a front of them.
+-- own, and were served so, in rounds, each through a hall over the tables that the rounds before
+-- left. This is the last one's. Where the run ended well, it wrote the replies that they have in this
+-- order; where the sink failed, a front of them.
 pub record IsServedInRounds {O : Type 0} (command : Command) (input : List ℕ) (out : Change O)
     (s : Status) (closed : ClosedView) : Type 0 where
   pub file : File
@@ -60,11 +61,13 @@ pub record IsServedInRounds {O : Type 0} (command : Command) (input : List ℕ) 
   pub got : List Arrival
   pub drawn : IsDrawn (client_counts input) got
   pub all : length got ≡ sum (client_counts input)
-  pub last : IsLastRound (record { file = file; lists = is_session.program.lists })
+  pub halls : List ClosedView
+  pub rounds : AreRounds (record { file = file; lists = is_session.program.lists })
       (opened_of (client_parts input) file) (record {
         requests = requests_of (client_parts input) file;
         counts = client_counts input;
-      }) got (callers_of command) (shards_of command) closed
+      }) got (callers_of command) (shards_of command) halls
+  pub last : Some closed ≡ last_hall halls
   pub took : s ≡ status.Fine → WroteAll out (text_of_arrivals input file got)
   pub front : s ≡ status.WriteFault → WrotePrefix out (text_of_arrivals input file got)
 
