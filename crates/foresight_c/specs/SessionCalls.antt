@@ -17,12 +17,12 @@ pub record IsSilent (a : Answer) : Type 0 where
 
 -- a handle of nothing has a session, or none, and the message says why; a handle of something keeps
 -- it
-abbrev pub OpensOn : Option Desk → Option Desk → List ℕ → ℕ → List ℕ → List ℕ → Answer → ℕ
+abbrev pub OpensOn : Option Desk → Option Desk → List ℕ → ℕ → ℕ → List ℕ → List ℕ → Answer → ℕ
     → Type 0
-OpensOn (Some d) e text most message message_new a n =
+OpensOn (Some d) e text seed most message message_new a n =
     (e ≡ Some d) × (n ≡ wrong) × (message_new ≡ message) × IsSilent a × (a.told ≡ 0)
-OpensOn None e text most message message_new a n = IsSilent a
-    × (((d : Desk) × (e ≡ Some d) × HasOpenedDesk text most d × (n ≡ fine)
+OpensOn None e text seed most message message_new a n = IsSilent a
+    × (((d : Desk) × (e ≡ Some d) × HasOpenedDesk text seed most d × (n ≡ fine)
     × (message_new ≡ message) × (a.told ≡ 0))
     ⊎ ((why : OpenError) × (e ≡ None) × IsUnopenedDesk text most why × (n ≡ unopened_number why)
     × HasMessage message message_new (unopened_line why) a.told))

@@ -25,14 +25,14 @@ use Rattle.foresight_c.specs.declared.served.Served.{Served}
 abbrev pub names_bound : ℕ → ℕ
 names_bound most = min most 4000000000
 
--- the desk has a session that was opened over the text
-abbrev pub HasOpenedDesk : List ℕ → ℕ → Desk → Type 0
-HasOpenedDesk text most (Session d) = HasOpened text (names_bound most) d.session
-HasOpenedDesk text most (Tables d) = ⊥
+-- the desk has a session that was opened over the text, with searches by the seed
+abbrev pub HasOpenedDesk : List ℕ → ℕ → ℕ → Desk → Type 0
+HasOpenedDesk text seed most (Session d) = HasOpened text seed (names_bound most) d.session
+HasOpenedDesk text seed most (Tables d) = ⊥
 
 -- the same of what a box has
-abbrev pub HasOpenedIn : List ℕ → ℕ → Desk → Type 0
-HasOpenedIn text most value = (d : Desk) × (value ≡ d) × HasOpenedDesk text most d
+abbrev pub HasOpenedIn : List ℕ → ℕ → ℕ → Desk → Type 0
+HasOpenedIn text seed most value = (d : Desk) × (value ≡ d) × HasOpenedDesk text seed most d
 
 abbrev pub IsUnopenedDesk : List ℕ → ℕ → OpenError → Type 0
 IsUnopenedDesk text most why = IsUnopened text (names_bound most) why

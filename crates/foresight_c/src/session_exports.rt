@@ -12,7 +12,8 @@ use crate::sessions::{opened, tell, wrong};
 use std::alloc::Global;
 
 /// A session over a session file without requests: handlers, perhaps a table part, and the dividing
-/// line. Searches begin as the seed has it (in no clause), and there may be so many names.
+/// line. Searches in its tables begin as the seed has it, and so do those among its names (in no
+/// clause); there may be so many names.
 #[unsafe(no_mangle)]
 pub extern "C" fn foresight_session_open(
     alloc: Global,
@@ -23,8 +24,8 @@ pub extern "C" fn foresight_session_open(
     message: &mut [u8],
     answer: &mut Answer,
 ) -> u8
-    ensures { OpensOn handle.old.held.value handle.new.held.value text.now most_names message.old
-        message.new answer.new result }
+    ensures { OpensOn handle.old.held.value handle.new.held.value text.now seed most_names
+        message.old message.new answer.new result }
 {
     answer.written = 0;
     answer.needed = 0;

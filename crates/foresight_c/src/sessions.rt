@@ -25,7 +25,7 @@ pub(crate) fn opened(
     seed: u64,
     most_names: u32,
 ) -> Result<Box<Desk, Global>, OpenError>
-    ensures opened { IfOk result (λ desk. HasOpenedIn text.now most_names desk.value) }
+    ensures opened { IfOk result (λ desk. HasOpenedIn text.now seed most_names desk.value) }
     ensures unopened { IfErr result (IsUnopenedDesk text.now most_names) }
 {
     let Ok(replies) = WriteBuffer::new(alloc) else {

@@ -32,7 +32,7 @@ use Rattle.driven_tickets.specs.Desk.{BegunAs, CheckedAs, DeskView, IsDesk, Narr
 use Rattle.live_session.specs.declared.history.History.{History}
 use Rattle.driven_tickets.proofs.Following.{refused_by}
 use Rattle.live_session.specs.Driven.{Beside, CallAnswered, FitsSession, is_done}
-use Rattle.live_session.specs.Held.{HasRoom, IsDone, container_in, held, room_at, rooms}
+use Rattle.live_session.specs.Held.{HasRoom, IsDone, container_in, factors_in, held, room_at, rooms}
 use Rattle.live_session.specs.Live.{IsLive, LiveView, desk_in}
 use Rattle.live_session.proofs.Room.{room_here, table_here}
 use Rattle.live_session.proofs.Said.{tables_kept}
@@ -47,6 +47,7 @@ with_history v names ts k x = record {
   most_names = v.most_names;
   names = names;
   tables = ts;
+  factors = v.factors;
   tickets = k;
   driven = x.driven;
   lines = x.lines;
@@ -153,7 +154,7 @@ module _ (ps : List Part) (i : ℕ) (op : Op) (at : i ≡ op.table) where
 
 -- ---- an operation that is done by what answers it
 abbrev Answered : Type 0 → Result Value NoMemory → List Part → Op → List Part → Type 0
-Answered X r ps op qs = MatchResult r (λ v. (HasRoom ps op → IsDone ps op v qs) × (rooms qs ≡ rooms ps) × IsValue v) (λ _. X)
+Answered X r ps op qs = MatchResult r (λ v. (HasRoom ps op → IsDone ps op v qs) × (rooms qs ≡ rooms ps) × (factors_in qs ≡ factors_in ps) × IsValue v) (λ _. X)
 
 pub reply_by : (X : Type 0) (r : Result Value NoMemory) (ps qs : List Part) (op : Op) → HasRoom ps op → Answered X r ps op qs → IfOk r (λ v. v ≡ reply (held ps) op)
 reply_by X (Ok v) ps qs op room h = (h.0 room).0
@@ -162,6 +163,10 @@ reply_by X (Err e) ps qs op room h = tt
 pub tables_by : (X : Type 0) (r : Result Value NoMemory) (ps qs : List Part) (op : Op) → HasRoom ps op → Answered X r ps op qs → OnOk r (held qs ≡ step (held ps) op)
 tables_by X (Ok v) ps qs op room h = (h.0 room).1
 tables_by X (Err e) ps qs op room h = tt
+
+pub factors_by : (X : Type 0) (r : Result Value NoMemory) (ps qs : List Part) (op : Op) → Answered X r ps op qs → (X → factors_in qs ≡ factors_in ps) → factors_in qs ≡ factors_in ps
+factors_by X (Ok v) ps qs op h still = h.2
+factors_by X (Err e) ps qs op h still = still h
 
 -- what adds no key has room
 pub no_room_needed : (ps : List Part) (op : Op) → is_adding op.kind ≡ false → HasRoom ps op

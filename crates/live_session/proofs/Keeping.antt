@@ -21,9 +21,9 @@ use Rattle.live_session.specs.Live.{IsKept, IsLive, LiveView, program_in}
 pub known_now : (v : LiveView) → IsLive v → AreKnown v.names v.file
 known_now v live = known_kept v.first_names v.names v.file live.begins live.known
 
--- names and tables that are as they were leave all as it was
-pub still : (v : LiveView) (names : List Text) (ts : Tables) → names ≡ v.names → ts ≡ v.tables → record v { names = names; tables = ts } ≡ v
-still v names ts e d = λ i. record v { names = e i; tables = d i }
+-- names, tables and factors that are as they were leave all as it was
+pub still : (v : LiveView) (names : List Text) (ts : Tables) (fs : List ℕ) → names ≡ v.names → ts ≡ v.tables → fs ≡ v.factors → record v { names = names; tables = ts; factors = fs } ≡ v
+still v names ts fs e d k = λ i. record v { names = e i; tables = d i; factors = k i }
 
 kinds_long : (ps qs : List Part) → map kind_of (held qs) ≡ map kind_of (held ps) → length qs ≡ length ps
 kinds_long ps qs e =

@@ -35,14 +35,14 @@ use Rattle.live_session.specs.declared.opening.OpenError.{OpenError}
 use Rattle.live_session.specs.declared.opening.OpenError.TheVariants as unopened
 use Rattle.live_session.specs.Held.{AreAdds, container_in, held}
 use Rattle.live_session.specs.Live.{IsKept, IsLive, LiveView}
-use Rattle.live_session.specs.Openings.{CanOpen, HasOpened, IsFileOf, IsMade, IsUnmade, IsUnopened, first_view, unopened_by}
+use Rattle.live_session.specs.Openings.{CanOpen, HasOpened, IsFileOf, IsMade, IsUnmade, IsUnopened, first_view, seeded, unopened_by}
 use Rattle.live_session.specs.Served.{AreServed, line_fault}
 use Rattle.live_session.proofs.Lines.{handlers_known}
 
 -- ---- no line was served
-first_live : (l : Loaded) (most : ℕ) → IsProgram l.program → CanOpen l most → IsLive (first_view l most)
-first_live l most program can =
-    let v : LiveView = first_view l most in
+first_live : (l : Loaded) (seed most : ℕ) → IsProgram l.program → CanOpen l most → IsLive (first_view l seed most)
+first_live l seed most program can =
+    let v : LiveView = first_view l seed most in
     let none : rows 0 [] ≡ [] = rows_nil 0 in
     record {
       program = program;
@@ -69,8 +69,8 @@ abbrev none_open : TicketsView
 none_open = record { next = 0; tickets = []; acts = [] }
 
 -- what is seen of a session over this file, with this history
-abbrev seen : Loaded → ℕ → List Text → Tables → TicketsView → History → LiveView
-seen l most names ts k h = record {
+abbrev seen : Loaded → ℕ → List Text → Tables → List ℕ → TicketsView → History → LiveView
+seen l most names ts fs k h = record {
   file = l.program.file;
   lists = l.program.lists;
   opened = h.opened;
@@ -78,6 +78,7 @@ seen l most names ts k h = record {
   most_names = most;
   names = names;
   tables = ts;
+  factors = fs;
   tickets = k;
   driven = h.driven;
   lines = h.lines;
@@ -85,13 +86,13 @@ seen l most names ts k h = record {
 }
 
 -- the same names, tables as they open and a history that begins are seen so
-pub live_made : (l : Loaded) (most : ℕ) → IsProgram l.program → CanOpen l most → (names : List Text) (ts : Tables) (k : TicketsView) (h : History) → names ≡ l.names → ts ≡ tables_of (shape_of l.program.file) l.opening → k ≡ none_open → h ≡ begun l names → IsLive (seen l most names ts k h)
-live_made l most program can names ts k h same is none begins =
-    let first : IsLive (seen l most names (tables_of (shape_of l.program.file) l.opening) none_open (begun l names)) =
-    subst (λ (ns : List Text). IsLive (seen l most ns (tables_of (shape_of l.program.file) l.opening) none_open (begun l ns))) (sym same) (first_live l most program can) in
-    let filled : IsLive (seen l most names ts none_open (begun l names)) = subst (λ (us : Tables). IsLive (seen l most names us none_open (begun l names))) (sym is) first in
-    let empty : IsLive (seen l most names ts k (begun l names)) = subst (λ (x : TicketsView). IsLive (seen l most names ts x (begun l names))) (sym none) filled in
-    subst (λ (x : History). IsLive (seen l most names ts k x)) (sym begins) empty
+pub seen_first : (l : Loaded) (seed most : ℕ) (names : List Text) (ts : Tables) (fs : List ℕ) (k : TicketsView) (h : History) → names ≡ l.names → ts ≡ tables_of (shape_of l.program.file) l.opening → fs ≡ seeded seed ts → k ≡ none_open → h ≡ begun l names → seen l most names ts fs k h ≡ first_view l seed most
+seen_first l seed most names ts fs k h same is factors none begins =
+    (λ i. seen l most names ts (factors i) (none i) (begins i)) ∙ (λ i. seen l most (same i) (is i) (seeded seed (is i)) none_open (begun l (same i)))
+
+pub live_made : (l : Loaded) (seed most : ℕ) → IsProgram l.program → CanOpen l most → (names : List Text) (ts : Tables) (fs : List ℕ) (k : TicketsView) (h : History) → names ≡ l.names → ts ≡ tables_of (shape_of l.program.file) l.opening → fs ≡ seeded seed ts → k ≡ none_open → h ≡ begun l names → IsLive (seen l most names ts fs k h)
+live_made l seed most program can names ts fs k h same is factors none begins =
+    subst IsLive (sym (seen_first l seed most names ts fs k h same is factors none begins)) (first_live l seed most program can)
 
 -- ---- what is made of what was loaded
 module _ (l : Loaded) (most : ℕ) (can : CanOpen l most) where
@@ -148,10 +149,10 @@ module _ (text : Text) (l : Loaded) (input : IsSessionInput text) (is : IsLoaded
   many_names : (most : ℕ) → most < length l.names → most < length (all_names_of parts)
   many_names most h = subst (λ (ns : List Text). most < length ns) is.names_are h
 
-  opened : (most : ℕ) (s : LiveView) → length l.requests ≡ 0 → s ≡ first_view l most → HasOpened text most s
-  opened most s none e =
+  opened : (seed most : ℕ) (s : LiveView) → length l.requests ≡ 0 → s ≡ first_view l seed most → HasOpened text seed most s
+  opened seed most s none e =
       let bare = bare_of none in
-      subst (HasOpened text most) (sym e) (record {
+      subst (HasOpened text seed most) (sym e) (record {
         input = input;
         is_session = file_of.is_session;
         bare = bare;
@@ -160,6 +161,7 @@ module _ (text : Text) (l : Loaded) (input : IsSessionInput text) (is : IsLoaded
         names_are = refl;
         most_is = refl;
         tables_are = refl;
+        factors_are = refl;
         no_tickets = refl;
         none_driven = refl;
         no_lines = refl;
@@ -172,9 +174,9 @@ module _ (text : Text) (l : Loaded) (input : IsSessionInput text) (is : IsLoaded
   unmade most unopened.TooManyNames h = (l.program.file, file_of, many_names most h)
   unmade most unopened.NoMemory h = tt
 
-  pub all_made : (most : ℕ) (r : Result LiveView OpenError) → IfOk r (IsMade l most) → IfOk r (HasOpened text most)
-  all_made most (Ok s) h = opened most s h.0 h.1
-  all_made most (Err e) h = tt
+  pub all_made : (seed most : ℕ) (r : Result LiveView OpenError) → IfOk r (IsMade l seed most) → IfOk r (HasOpened text seed most)
+  all_made seed most (Ok s) h = opened seed most s h.0 h.1
+  all_made seed most (Err e) h = tt
 
   pub none_made : (most : ℕ) (r : Result LiveView OpenError) → IfErr r (IsUnmade l most) → IfErr r (IsUnopened text most)
   none_made most (Ok s) h = tt

@@ -8,8 +8,8 @@ use Rattle.handler_check.specs.File.{File}
 use Rattle.handler_check.specs.Bounds.{adds_bound}
 use Rattle.handler_check.specs.Resolved.{code_at}
 use Rattle.shard_tables.specs.declared.part.Part.{Part}
-use Rattle.shard_tables.specs.Either.{shard_view}
-use Rattle.live_session.specs.Held.{AreAdds, adds_in, container_in, held, room_at}
+use Rattle.shard_tables.specs.Either.{index_in, shard_view}
+use Rattle.live_session.specs.Held.{AreAdds, adds_in, container_in, factors_in, held, room_at}
 
 -- ---- bounds by table
 
@@ -45,6 +45,12 @@ pub held_same : (ps : List Part) (i : ℕ) (p new : Part) → i < length ps → 
 held_same [] i p new l is e = refl
 held_same (x ∷ ps) zero p new l is e = ap (λ (c : Container). c ∷ held ps) (e ∙ ap container_in is)
 held_same (x ∷ ps) (suc i) p new l is e = ap (λ (cs : Tables). container_in x ∷ cs) (held_same ps i p new (omega (arith, l)) is e)
+
+-- a shard that is written back with its factor leaves all factors
+pub factors_same : (ps : List Part) (i : ℕ) (p new : Part) → i < length ps → p ≡ get_or ps i p → (index_in new).factor ≡ (index_in p).factor → factors_in (set ps i new) ≡ factors_in ps
+factors_same [] i p new l is e = refl
+factors_same (x ∷ ps) zero p new l is e = ap (λ (n : ℕ). n ∷ factors_in ps) (e ∙ ap (λ (q : Part). (index_in q).factor) is)
+factors_same (x ∷ ps) (suc i) p new l is e = ap (λ (ns : List ℕ). (index_in x).factor ∷ ns) (factors_same ps i p new (omega (arith, l)) is e)
 
 room_before : (ps : List Part) (i t : ℕ) (new : Part) → t < i → room_at (set ps i new) t ≡ room_at ps t
 room_before [] i t new l = refl

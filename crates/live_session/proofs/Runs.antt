@@ -4,7 +4,7 @@ use Rattle.std.proofs.lemmas.List.{length-map}
 use Rattle.std.specs.List.{AllByRecursion}
 use Rattle.session_values.specs.Values.{IsValue}
 use Rattle.session_values.specs.declared.reply.Reply.{Reply}
-use Rattle.session_values.specs.Dialogue.{Entry}
+use Rattle.session_values.specs.Dialogue.{Dialogue, Entry}
 use Rattle.session_values.specs.Kinds.{is_adding}
 use Rattle.session_values.specs.Serial.{serve}
 use Rattle.session_values.specs.Tables.{Tables, size_of, table}
@@ -18,7 +18,7 @@ use Rattle.handler_check.proofs.Bounded.{counted, ends_by}
 use Rattle.handler_machine.specs.Asking.{Runs, Steps}
 use Rattle.shard_tables.specs.declared.part.Part.{Part}
 use Rattle.shard_tables.specs.Either.{shard_view}
-use Rattle.live_session.specs.Held.{HasRoom, HaveRoomFor, LiveStep, held, room_at, rooms}
+use Rattle.live_session.specs.Held.{HasRoom, HaveRoomFor, LiveStep, factors_in, held, room_at, rooms}
 use Rattle.live_session.specs.declared.tables.LiveTables.{LiveTables}
 
 abbrev parts : LiveTables → List Part
@@ -70,7 +70,15 @@ steps_done (e ∷ es) a b s h =
 -- a program can hold each reply
 steps_held : (es : List Entry) (a b : LiveTables) → Steps LiveStep a es b → AllByRecursion (λ (e : Entry). IsValue e.reply) es
 steps_held [] a b s = tt
-steps_held (e ∷ es) a b s = (s.1.2, steps_held es s.0 b s.2)
+steps_held (e ∷ es) a b s = (s.1.3, steps_held es s.0 b s.2)
+
+-- the factors stay
+steps_factors : (es : List Entry) (a b : LiveTables) → Steps LiveStep a es b → factors_in (parts b) ≡ factors_in (parts a)
+steps_factors [] a b s = ap (λ (x : LiveTables). factors_in (parts x)) s
+steps_factors (e ∷ es) a b s = steps_factors es s.0 b s.2 ∙ s.1.2
+
+pub run_factors : (f : Dialogue) (a b : LiveTables) (r : Reply) → Runs LiveStep f a b r → factors_in (parts b) ≡ factors_in (parts a)
+run_factors f a b r runs = steps_factors runs.entries a b runs.steps
 
 -- a whole run is that of the handler alone
 pub served_whole : (code : Code) (env : Env) (a b : LiveTables) (r : Reply) → Runs LiveStep (next code env) a b r → HaveRoomFor code (parts a)

@@ -1,12 +1,20 @@
--- The same names, placed one after another.
+-- The same names, placed one after another; and the factors of tables that are filled one after
+-- another.
 use Rattle.std.proofs.Common.{◌≡◌, ℕ, zero, suc, ◌+◌, ◌<◌, Bool, true, false, ◌||◌, List, [], ◌∷◌, ◌++◌, take, Some, slice_get, refl, sym, ◌∙◌, ap, arith}
 use Rattle.std.proofs.lemmas.Bool.{false≢true}
+use Rattle.std.proofs.lemmas.List.{map-append}
 use Rattle.std.specs.List.{list_any}
 use Rattle.std.specs.Str.{bytes_eq}
 use Rattle.std.proofs.lemmas.Slice.Eq.{bytes_eq-Decides}
 use Rattle.session_values.specs.Names.{AreDistinct, with_text}
 use Rattle.session_values.proofs.NamesLemmas.{with_new}
+use Rattle.session_values.specs.Tables.{Container}
+use Rattle.shard_tables.specs.declared.part.Part.{Part}
+use Rattle.shard_tables.specs.Either.{index_in}
+use Rattle.shard_tables.specs.Slots.{factor_of}
 use Rattle.text_lines.specs.Text.{Text}
+use Rattle.live_session.specs.Held.{container_in, factors_in, held}
+use Rattle.live_session.specs.Openings.{seeded}
 
 -- where a text stands among some
 record Stands (t : Text) (xs : List Text) : Type 0 where
@@ -45,3 +53,13 @@ placed_more names n t d h = with_new (take n names) t (new (list_any (bytes_eq t
         let k = among_first names n m.at t m.is in
         let same : m.at ≡ n = d m.at n t k.1 h in
         absurd (omega (arith, k.0, same))
+
+-- one table more, whose factor is the seed's
+pub seeded_more : (seed : ℕ) (ps : List Part) (p : Part) (qs : List Part) → qs ≡ ps ++ p ∷ [] → factors_in ps ≡ seeded seed (held ps) → (index_in p).factor ≡ factor_of seed → factors_in qs ≡ seeded seed (held qs)
+seeded_more seed ps p qs is h one =
+    ap factors_in is
+    ∙ map-append (λ (q : Part). (index_in q).factor) ps (p ∷ [])
+    ∙ (λ i. h i ++ one i ∷ [])
+    ∙ sym (map-append (λ (t : Container). factor_of seed) (held ps) (container_in p ∷ []))
+    ∙ ap (seeded seed) (sym (map-append container_in ps (p ∷ [])))
+    ∙ ap (λ (rs : List Part). seeded seed (held rs)) (sym is)

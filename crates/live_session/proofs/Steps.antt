@@ -198,6 +198,7 @@ module _ (v : LiveView) (live : IsLive v) (most : v.most_names ≤ 4000000000) (
     lines_are = refl;
     replies_are = refl;
     tickets_are = subst (λ (q : Request). l ≡ passed v.tickets (acts_of (program_in v) v.tickets.next q.handler q.args v.tables)) asked_is acts;
+    factors_still = refl;
     driven_still = refl;
     file_still = refl;
     lists_still = refl;

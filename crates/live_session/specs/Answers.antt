@@ -63,6 +63,7 @@ pub record LineServed (v : LiveView) (line : Text) (r : Row) (text : Text) (w : 
     tickets = v.tickets.tickets;
     acts = v.tickets.acts ++ acts_in v r;
   }
+  pub factors_still : w.factors ≡ v.factors
   pub driven_still : w.driven ≡ v.driven
   pub file_still : w.file ≡ v.file
   pub lists_still : w.lists ≡ v.lists

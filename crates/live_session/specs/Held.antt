@@ -12,7 +12,7 @@ use Rattle.handler_check.specs.Resolved.{code_at}
 use Rattle.handler_check.specs.Bounds.{adds_bound}
 use Rattle.handler_check.specs.Code.{Code}
 use Rattle.shard_tables.specs.declared.part.Part.{Part}
-use Rattle.shard_tables.specs.Either.{entries_in, shard_view}
+use Rattle.shard_tables.specs.Either.{entries_in, index_in, shard_view}
 pub use Rattle.shard_tables.specs.Whole.{container_in, held}
 use Rattle.live_session.specs.declared.tables.LiveTables.{LiveTables}
 
@@ -23,6 +23,10 @@ lists_in ps = map entries_in ps
 -- for how many keys each has room
 abbrev pub rooms : List Part → List ℕ
 rooms ps = map (λ (p : Part). (shard_view p).room) ps
+
+-- the factors of their searches
+abbrev pub factors_in : List Part → List ℕ
+factors_in ps = map (λ (p : Part). (index_in p).factor) ps
 
 -- the room of a table
 abbrev pub room_at : List Part → ℕ → ℕ
@@ -37,11 +41,12 @@ HasRoom ps op = is_adding op.kind ≡ true → op.table < length ps
 abbrev pub IsDone : List Part → Op → Value → List Part → Type 0
 IsDone old op v new = (v ≡ reply (held old) op) × (held new ≡ step (held old) op)
 
--- it is done where it has room, the rooms stay, and a program can hold the reply
+-- it is done where it has room, the rooms and the factors stay, and a program can hold the reply
 abbrev pub LiveStep : LiveTables → Op → Value → LiveTables → Type 0
 LiveStep old op v new =
     (HasRoom old.parts.items op → IsDone old.parts.items op v new.parts.items)
-    × (rooms new.parts.items ≡ rooms old.parts.items) × IsValue v
+    × (rooms new.parts.items ≡ rooms old.parts.items)
+    × (factors_in new.parts.items ≡ factors_in old.parts.items) × IsValue v
 
 -- each table has room for so many more keys
 abbrev pub HaveRoom : (ℕ → ℕ) → List Part → Type 0

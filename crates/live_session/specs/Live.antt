@@ -30,8 +30,8 @@ use Rattle.live_session.specs.Held.{AreAdds, held}
 use Rattle.live_session.specs.Served.{AreServed, line_fault}
 
 -- the handlers, and what they declare at their points; the entries with which the tables opened and
--- the names at that time; the most names that there may be; the names and the tables now; the open
--- tickets; and, which no code reads, how many acts the program did itself, beside the lines, and
+-- the names at that time; the most names that there may be; the names and the tables now; the
+-- factors by which the tables' searches spread their keys; the open tickets; and, which no code reads, how many acts the program did itself, beside the lines, and
 -- the lines that were served with their replies
 pub record LiveView : Type 0 where
   pub file : File
@@ -41,6 +41,7 @@ pub record LiveView : Type 0 where
   pub most_names : ℕ
   pub names : List Text
   pub tables : Tables
+  pub factors : List ℕ
   pub tickets : TicketsView
   pub driven : ℕ
   pub lines : List Text

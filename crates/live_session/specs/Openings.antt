@@ -1,7 +1,9 @@
 -- What opening a session answers.
-use Rattle.std.specs.Prelude.{◌≡◌, ◌≢◌, ℕ, ◌<◌, ◌≤◌, [], length}
+use Rattle.std.specs.Prelude.{◌≡◌, ◌≢◌, ℕ, ◌<◌, ◌≤◌, List, [], length, map}
 use Rattle.session_values.specs.Limits.{max_input}
 use Rattle.session_values.specs.Opening.{IsOpening, tables_of}
+use Rattle.session_values.specs.Tables.{Container, Tables}
+use Rattle.shard_tables.specs.Slots.{factor_of}
 use Rattle.handler_check.specs.Checking.{IsAccepted}
 use Rattle.handler_check.specs.Resolved.{shape_of}
 use Rattle.serve_faults.specs.Language.{IsNamedFile}
@@ -22,9 +24,13 @@ use Rattle.live_session.specs.declared.opening.OpenError.{OpenError}
 use Rattle.live_session.specs.declared.opening.OpenError.TheVariants as unopened
 use Rattle.live_session.specs.Live.{LiveView}
 
+-- the factors of tables whose searches begin as the seed has it: each table's is the seed's
+abbrev pub seeded : ℕ → Tables → List ℕ
+seeded seed ts = map (λ (t : Container). factor_of seed) ts
+
 -- a session over this file, with these entries and names, before any line was served
-abbrev pub first_view : Loaded → ℕ → LiveView
-first_view l most = record {
+abbrev pub first_view : Loaded → ℕ → ℕ → LiveView
+first_view l seed most = record {
   file = l.program.file;
   lists = l.program.lists;
   opened = l.opening;
@@ -32,6 +38,7 @@ first_view l most = record {
   most_names = most;
   names = l.names;
   tables = tables_of (shape_of l.program.file) l.opening;
+  factors = seeded seed (tables_of (shape_of l.program.file) l.opening);
   tickets = record { next = 0; tickets = []; acts = [] };
   driven = 0;
   lines = [];
@@ -39,8 +46,8 @@ first_view l most = record {
 }
 
 -- the text is a session file without requests, and the session is the one over its handlers, the
--- entries of its table part and their names
-pub record HasOpened (text : Text) (most : ℕ) (v : LiveView) : Type 0 where
+-- entries of its table part and their names, whose searches are the seed's
+pub record HasOpened (text : Text) (seed most : ℕ) (v : LiveView) : Type 0 where
   pub input : IsSessionInput text
   pub is_session : IsSession (parts_of text) v.file
   pub bare : rows_of (parts_of text) ≡ []
@@ -49,6 +56,7 @@ pub record HasOpened (text : Text) (most : ℕ) (v : LiveView) : Type 0 where
   pub names_are : v.names ≡ v.first_names
   pub most_is : v.most_names ≡ most
   pub tables_are : v.tables ≡ tables_of (shape_of v.file) v.opened
+  pub factors_are : v.factors ≡ seeded seed v.tables
   pub no_tickets : v.tickets ≡ record { next = 0; tickets = []; acts = [] }
   pub none_driven : v.driven ≡ 0
   pub no_lines : v.lines ≡ []
@@ -81,8 +89,8 @@ pub record CanOpen (l : Loaded) (most : ℕ) : Type 0 where
 -- ---- on the way. Only this crate's own functions cite these.
 
 -- a session was made of what was loaded, which has no requests
-abbrev pub IsMade : Loaded → ℕ → LiveView → Type 0
-IsMade l most v = (length l.requests ≡ 0) × (v ≡ first_view l most)
+abbrev pub IsMade : Loaded → ℕ → ℕ → LiveView → Type 0
+IsMade l seed most v = (length l.requests ≡ 0) × (v ≡ first_view l seed most)
 
 -- why none was made
 abbrev pub IsUnmade : Loaded → ℕ → OpenError → Type 0

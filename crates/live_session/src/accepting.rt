@@ -12,7 +12,7 @@ ghost use Rattle.text_lines.specs.Values.{is_value, placed_all, values_of};
 ghost use Rattle.request_files.specs.Requests.{AreKnown, IsHandler};
 ghost use Rattle.live_session.specs.Accepting.{IsAccepted, IsDeclined, IsTurnedAway, IsUnread};
 ghost use Rattle.live_session.specs.Entries.{IsAdmitted};
-ghost use Rattle.live_session.specs.Held.{HaveRoomFor, held};
+ghost use Rattle.live_session.specs.Held.{HaveRoomFor, factors_in, held};
 
 use crate::admission::Admission;
 use crate::admitting::admit;
@@ -172,6 +172,7 @@ pub(crate) fn accept(
         words.entry.arguments.rest.now))) }
     ensures same { OnErr result (names.new ≡ names.old) }
     ensures held { held parts.new.items ≡ held parts.old.items }
+    ensures factors { factors_in parts.new.items ≡ factors_in parts.old.items }
     ensures capacity { vec_capacity args.new ≡ vec_capacity args.old }
 {
     let before = names.len();

@@ -5,7 +5,7 @@ ghost use Rattle.session_values.specs.Limits.{max_symbols, max_variables};
 ghost use Rattle.handler_check.specs.Resolved.{code_at};
 ghost use Rattle.driven_tickets.specs.Commuting.{IsClear, IsHeldUpBy};
 ghost use Rattle.live_session.specs.Entries.{IsAdmitted, IsHeldBack, entry_list};
-ghost use Rattle.live_session.specs.Held.{HaveRoomFor, held};
+ghost use Rattle.live_session.specs.Held.{HaveRoomFor, factors_in, held};
 
 use crate::admission::Admission;
 use crate::answers::Answered;
@@ -69,6 +69,7 @@ pub(crate) fn admit(
     ensures held_back { IfErr result (IsHeldBack by.entry.program.now by.entry.tickets.now h
         args.now) }
     ensures held { held parts.new.items ≡ held parts.old.items }
+    ensures factors { factors_in parts.new.items ≡ factors_in parts.old.items }
 {
     // There are few handlers.
     let _handlers = by.program.checked().handlers();

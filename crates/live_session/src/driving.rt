@@ -7,7 +7,7 @@ ghost use Rattle.session_values.specs.Names.{IsNamed};
 ghost use Rattle.session_values.specs.ReplyText.{IsPrintable};
 ghost use Rattle.session_values.specs.Tables.{Fits, kind_of, reply, step};
 ghost use Rattle.live_session.specs.Driven.{IsOperationOf};
-ghost use Rattle.live_session.specs.Held.{container_in, held};
+ghost use Rattle.live_session.specs.Held.{container_in, factors_in, held};
 
 use crate::growing::make_room;
 use crate::session::LiveSession;
@@ -77,6 +77,7 @@ fn perform_with_room(alloc: Global, tables: &mut LiveTables, op: Op) -> Result<V
     ensures done { OnOk result (held tables.new.parts.items
         ≡ step (held tables.old.parts.items) op) }
     ensures err { OnErr result (held tables.new.parts.items ≡ held tables.old.parts.items) }
+    ensures factors { factors_in tables.new.parts.items ≡ factors_in tables.old.parts.items }
 {
     make_room(alloc, &mut tables.parts[op.table as usize], 1)?;
     tables.answer(op)
@@ -90,6 +91,7 @@ fn perform(alloc: Global, tables: &mut LiveTables, op: Op) -> Result<Value, NoMe
     ensures done { OnOk result (held tables.new.parts.items
         ≡ step (held tables.old.parts.items) op) }
     ensures err { OnErr result (held tables.new.parts.items ≡ held tables.old.parts.items) }
+    ensures factors { factors_in tables.new.parts.items ≡ factors_in tables.old.parts.items }
     ensures sure { OnErr result (is_adding op.kind ≡ true) }
 {
     if op.kind.adds() {

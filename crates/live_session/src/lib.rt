@@ -3,7 +3,7 @@
 //! served alone from the tables before it, or changes nothing. Beside open tickets it is delayed as
 //! a whole if what its handler declares at its entry doesn't commute with what they have declared.
 //! The law `regroups` holds of every session, `answered_as_served` of one that was given lines
-//! alone. In no clause: that searches begin by the seed.
+//! alone. In no clause: that searches among names begin by the seed.
 #![tactic(auto)]
 
 mod accepting;

@@ -5,14 +5,16 @@ ghost use Rattle.std.specs.Prelude.{slice_get, Some};
 ghost use Rattle.session_values.specs.Limits.{max_input, max_tables};
 ghost use Rattle.session_values.specs.declared.kind.TableKind.{TableKind as AnyKind};
 ghost use Rattle.session_values.specs.Opening.{IsOpening, container_of, entries_of, tables_of};
+ghost use Rattle.shard_tables.specs.Either.{index_in};
+ghost use Rattle.shard_tables.specs.Slots.{factor_of};
 ghost use Rattle.shard_tables.specs.Whole.{container_in};
 ghost use Rattle.declaration_insertion.specs.Program.{IsProgram};
 ghost use Rattle.handler_check.specs.Resolved.{shape_of};
 ghost use Rattle.serve_faults.specs.Input.{parts_of};
 ghost use Rattle.serve_reading.specs.Sessions.{IsLoaded, IsSessionInput};
-ghost use Rattle.live_session.specs.Held.{AreAdds, held};
+ghost use Rattle.live_session.specs.Held.{AreAdds, factors_in, held};
 ghost use Rattle.live_session.specs.Openings.{CanOpen, HasOpened, IsMade, IsUnmade, IsUnopened};
-ghost use Rattle.live_session.specs.Openings.{first_view, unopened_by};
+ghost use Rattle.live_session.specs.Openings.{first_view, seeded, unopened_by};
 
 use crate::adds::adds_by_table;
 use crate::arguments::Arguments;
@@ -70,7 +72,9 @@ fn opened_part(
     seed: u64,
 ) -> Result<Part, NoMemory>
     requires table { table < length opening.now }
-    ensures { IfOk result (λ p. container_in p ≡ container_of kind (entries_of opening.now table)) }
+    ensures entered { IfOk result (λ p. container_in p
+        ≡ container_of kind (entries_of opening.now table)) }
+    ensures factor { IfOk result (λ p. (index_in p).factor ≡ factor_of seed) }
 {
     let len = opening.len(table);
     let room = len.saturating_add(FIRST_ROOM).min(MOST_KEYS);
@@ -91,7 +95,9 @@ fn opened_tables(
 ) -> Result<LiveTables, NoMemory>
     requires long { length opening.now ≡ length shape.now }
     requires few { length shape.now ≤ max_tables }
-    ensures { IfOk result (λ ts. held ts.parts.items ≡ tables_of shape.now opening.now) }
+    ensures held { IfOk result (λ ts. held ts.parts.items ≡ tables_of shape.now opening.now) }
+    ensures factors { IfOk result (λ ts. factors_in ts.parts.items
+        ≡ seeded seed (held ts.parts.items)) }
 {
     let mut parts = Vec::with_capacity(alloc, shape.len())?;
     for table in 0..shape.len() {
@@ -111,6 +117,8 @@ fn tables_and_adds(
     requires few { length (shape_of loaded.now.program.file) ≤ max_tables }
     ensures held { IfOk result (λ p. held p.0.parts.items
         ≡ tables_of (shape_of loaded.now.program.file) loaded.now.opening) }
+    ensures factors { IfOk result (λ p. factors_in p.0.parts.items
+        ≡ seeded seed (held p.0.parts.items)) }
     ensures adds { IfOk result (λ p. AreAdds loaded.now.program.file
         (length (shape_of loaded.now.program.file)) p.1.items) }
     ensures program { IsProgram loaded.now.program }
@@ -126,7 +134,7 @@ fn tables_and_adds(
 fn made(alloc: Global, loaded: Loaded, seed: u64, most_names: u32) -> Result<LiveSession, NoMemory>
     requires can { CanOpen loaded most_names }
     requires bound { most_names ≤ 4000000000 }
-    ensures { IfOk result (λ s. s ≡ first_view loaded most_names) }
+    ensures { IfOk result (λ s. s ≡ first_view loaded seed most_names) }
 {
     let (tables, adds) = tables_and_adds(alloc, &loaded, seed)?;
     let values = Vec::with_capacity(alloc, MAX_VARIABLES)?;
@@ -152,7 +160,7 @@ fn made(alloc: Global, loaded: Loaded, seed: u64, most_names: u32) -> Result<Liv
 fn over(alloc: Global, loaded: Loaded, seed: u64, most: u32) -> Result<LiveSession, OpenError>
     requires can { length loaded.names ≤ most → CanOpen loaded most }
     requires bound { most ≤ 4000000000 }
-    ensures made { IfOk result (IsMade loaded most) }
+    ensures made { IfOk result (IsMade loaded seed most) }
     ensures unmade { IfErr result (IsUnmade loaded most) }
 {
     if loaded.requests.len() > 0 {
@@ -169,16 +177,16 @@ fn over(alloc: Global, loaded: Loaded, seed: u64, most: u32) -> Result<LiveSessi
 
 impl LiveSession {
     /// Opens a session over a session file without requests: its handlers, perhaps a table part,
-    /// and the dividing line. Searches in its tables and among its names begin as the seed has it
-    /// (in no clause), which is to come from where nobody who sends requests can know it. There may
-    /// be so many names, of handlers, tables, variables and symbols together.
+    /// and the dividing line. Searches in its tables begin as the seed has it, and so do those among
+    /// its names (in no clause): it is to come from where nobody who sends requests can know it.
+    /// There may be so many names, of handlers, tables, variables and symbols together.
     pub fn open(
         alloc: Global,
         text: &[u8],
         seed: u64,
         most_names: u32,
     ) -> Result<LiveSession, OpenError>
-        ensures opened { IfOk result (HasOpened text.now (min most_names 4000000000)) }
+        ensures opened { IfOk result (HasOpened text.now seed (min most_names 4000000000)) }
         ensures unopened { IfErr result (IsUnopened text.now (min most_names 4000000000)) }
     {
         if text.len() > MAX_INPUT {

@@ -9,7 +9,7 @@ ghost use Rattle.session_values.specs.Tables.{kind_of};
 ghost use Rattle.handler_check.specs.Bounds.{calls_bound};
 ghost use Rattle.handler_check.specs.Dialogue.{env_of, next};
 ghost use Rattle.handler_check.specs.Resolved.{code_at, params_at, shape_of};
-ghost use Rattle.live_session.specs.Held.{HaveRoomFor, held};
+ghost use Rattle.live_session.specs.Held.{HaveRoomFor, factors_in, held};
 
 use crate::tables::LiveTables;
 use handler_check::Checked;
@@ -37,6 +37,7 @@ pub(crate) fn run_alone(
         (serve (calls_bound (code_at checked.now h)) (next (code_at checked.now h)
         (env_of args.now)) (held tables.old.parts.items)).entries }
     ensures shape { map kind_of (held tables.new.parts.items) ≡ shape_of checked.now }
+    ensures factors { factors_in tables.new.parts.items ≡ factors_in tables.old.parts.items }
 {
     match run_handler(checked, h, args, scratch, tables) {
         Ok(reply) => reply,

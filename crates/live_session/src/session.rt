@@ -51,7 +51,7 @@ impl Model for LiveSession {
     ghost use Rattle.std.specs.Coded.{codes};
     ghost use Rattle.session_values.specs.Containers.{container_code};
     ghost use Rattle.syntax_trees.specs.contracts.stmt.Stmt as stmt;
-    ghost use Rattle.live_session.specs.Held.{held};
+    ghost use Rattle.live_session.specs.Held.{factors_in, held};
     ghost use Rattle.live_session.specs.Live.{IsKept, IsLive, LiveView};
 
     ghost Value = { LiveView };
@@ -66,6 +66,7 @@ impl Model for LiveSession {
       most_names = s.most_names;
       names = s.names;
       tables = held s.tables.parts.items;
+      factors = factors_in s.tables.parts.items;
       tickets = s.tickets;
       driven = s.history.driven;
       lines = s.history.lines;
@@ -80,6 +81,7 @@ impl Model for LiveSession {
       most_names = s.most_names;
       names = s.names;
       tables = held s.tables.parts.items;
+      factors = factors_in s.tables.parts.items;
       tickets = s.tickets;
       driven = s.history.driven;
       lines = s.history.lines;

@@ -1,10 +1,11 @@
-use Rattle.std.proofs.Common.{◌≡◌, ◌<◌, List, length, map, set, sym, ap, subst}
+use Rattle.std.proofs.Common.{◌≡◌, ◌<◌, List, length, map, set, sym, ap, ◌∙◌, subst}
 use Rattle.session_values.specs.Tables.{Fits, Tables, kind_of}
 use Rattle.session_values.specs.declared.op.Op.{Op}
 use Rattle.shard_tables.specs.declared.part.Part.{Part}
-use Rattle.live_session.specs.Held.{HasRoom, held}
-use Rattle.live_session.proofs.DrivenActs.{reply_at, reply_by, room_made, step_at, still_at, tables_by}
-use Rattle.live_session.proofs.Room.{held_same}
+use Rattle.live_session.specs.declared.tables.LiveTables.{LiveTables}
+use Rattle.live_session.specs.Held.{HasRoom, factors_in, held}
+use Rattle.live_session.proofs.DrivenActs.{factors_by, reply_at, reply_by, room_made, step_at, still_at, tables_by}
+use Rattle.live_session.proofs.Room.{factors_same, held_same}
 use Rattle.live_session.proofs.Whole.{exists}
 use Rattle.live_session.proofs.driving.perform_with_room.Goals as goal
 
@@ -43,3 +44,19 @@ returns-in_err-make_room-clause-err c =
     let low : c.op.inside.table < length ps = exists ps c.op.inside.table c.args.op at c.requires.table in
     let same : held (set ps c.op.inside.table c.make_room.new.part) ≡ held ps = held_same ps c.op.inside.table c.index_mut.result.now c.make_room.new.part low c.index_mut.ensures.value c.make_room.ensures.same in
     still_at c.from_residual.result (held (set ps c.op.inside.table c.make_room.new.part)) (held ps) same
+
+pub returns-clause-factors : goal.returns-clause-factors
+returns-clause-factors c =
+    let ps : List Part = c.args.tables.now.parts.items in
+    let at : c.op.inside.table ≡ c.args.op.table = ap (λ (o : Op). o.table) c.op.view_is in
+    let low : c.op.inside.table < length ps = exists ps c.op.inside.table c.args.op at c.requires.table in
+    let now : List Part = set ps c.op.inside.table c.make_room.new.part in
+    let same : factors_in now ≡ factors_in ps = factors_same ps c.op.inside.table c.index_mut.result.now c.make_room.new.part low c.index_mut.ensures.value c.make_room.ensures.factor in
+    factors_by _ c.answer.result now c.answer.new.self.parts.items c.args.op c.answer.ensures.step (λ h. ap (λ (t : LiveTables). factors_in t.parts.items) h.0) ∙ same
+
+pub returns-in_err-make_room-clause-factors : goal.returns-in_err-make_room-clause-factors
+returns-in_err-make_room-clause-factors c =
+    let ps : List Part = c.args.tables.now.parts.items in
+    let at : c.op.inside.table ≡ c.args.op.table = ap (λ (o : Op). o.table) c.op.view_is in
+    let low : c.op.inside.table < length ps = exists ps c.op.inside.table c.args.op at c.requires.table in
+    factors_same ps c.op.inside.table c.index_mut.result.now c.make_room.new.part low c.index_mut.ensures.value c.make_room.ensures.factor

@@ -10,7 +10,7 @@ use Rattle.driven_tickets.specs.Acts.{Calls}
 use Rattle.driven_tickets.specs.Desk.{DeskView, TicketsView, desk_over}
 use Rattle.driven_tickets.proofs.Keeping.{Acted, called, desk_on}
 use Rattle.live_session.specs.Driven.{CallAnswered, FitsSession, IsOperationOf}
-use Rattle.live_session.specs.Held.{held}
+use Rattle.live_session.specs.Held.{factors_in, held}
 use Rattle.live_session.specs.Live.{IsLive, LiveView, desk_in}
 use Rattle.live_session.specs.contracts.session.LiveSession.{the_view}
 use Rattle.live_session.proofs.DrivenActs.{acted, acted_live, call_refused, with_history}
@@ -46,8 +46,8 @@ invariant_of-self c =
     let one : Acted d e (Calls t op r) =
     called d e c.self.invariant.0.desk.ascending refl t op r (ap (λ (x : TicketsView). x.acts) c.called.ensures) c.in-Ok.ensures.done (ap (λ (x : TicketsView). x.next) c.called.ensures) (ap (λ (x : TicketsView). x.tickets) c.called.ensures)
     may.1 may.2 c.in-Ok.ensures.reply in
-    let w : LiveView = with_history v v.names ts k c.drove-self-inside.result in
-    let is : w ≡ acted v ts k = ap (with_history v v.names ts k) c.drove-self-inside.ensures in
+    let w : LiveView = with_history (record v { factors = factors_in c.perform.new.tables.parts.items }) v.names ts k c.drove-self-inside.result in
+    let is : w ≡ acted v ts k = (λ i. with_history (record v { factors = c.perform.ensures.factors i }) v.names ts k (c.drove-self-inside.ensures i)) in
     let prints : AllByRecursion (IsPrintableTable v.names) ts = subst (AllByRecursion (IsPrintableTable v.names)) (sym c.in-Ok.ensures.done) (step_holds v.names v.tables op c.self.invariant.0.prints fits.key fits.value) in (
       subst IsLive (sym is) (acted_live v ts k c.self.invariant.0 prints (desk_on d e (Calls t op r) c.self.invariant.0.desk one.acted one.ascending)),
       kept_kinds v.file v.most_names c.self.inside.adds.items c.self.inside.tables.parts.items c.perform.new.tables.parts.items (vec_capacity c.self.inside.args.values) (vec_capacity c.self.inside.args.values) c.self.invariant.1 refl
@@ -69,8 +69,8 @@ returns-in-Ok c =
     let one : Acted d e (Calls t op r) =
     called d e c.self.invariant.0.desk.ascending refl t op r (ap (λ (x : TicketsView). x.acts) c.called.ensures) c.in-Ok.ensures.done (ap (λ (x : TicketsView). x.next) c.called.ensures) (ap (λ (x : TicketsView). x.tickets) c.called.ensures)
     may.1 may.2 c.in-Ok.ensures.reply in
-    let w : LiveView = with_history v v.names ts k c.drove-self-inside.result in
-    let is : w ≡ acted v ts k = ap (with_history v v.names ts k) c.drove-self-inside.ensures in
+    let w : LiveView = with_history (record v { factors = factors_in c.perform.new.tables.parts.items }) v.names ts k c.drove-self-inside.result in
+    let is : w ≡ acted v ts k = (λ i. with_history (record v { factors = c.perform.ensures.factors i }) v.names ts k (c.drove-self-inside.ensures i)) in
     let P : LiveView → Type 0 = λ x. CallAnswered x w t op (called_as.Done r) in
     let Q : LiveView → Type 0 = λ x. CallAnswered v x t op (called_as.Done r) in
     subst P c.self.view_is (subst Q (sym is) ((fits, one.acted), refl))
@@ -78,8 +78,8 @@ returns-in-Ok c =
 pub invariant_of-self-in-Err : goal.invariant_of-self-in-Err
 invariant_of-self-in-Err c =
     let v : LiveView = the_view c.self.inside in
-    let P : Tables → Type 0 = λ ts. IsLive (record v { tables = ts }) in (
-      subst P (sym c.in-Err.ensures.err) c.self.invariant.0,
+    let same : record v { tables = held c.perform.new.tables.parts.items; factors = factors_in c.perform.new.tables.parts.items } ≡ v = (λ i. record v { tables = c.in-Err.ensures.err i; factors = c.perform.ensures.factors i }) in (
+      subst IsLive (sym same) c.self.invariant.0,
       kept_held v.file v.most_names c.self.inside.adds.items c.self.inside.tables.parts.items c.perform.new.tables.parts.items (vec_capacity c.self.inside.args.values) (vec_capacity c.self.inside.args.values) c.self.invariant.1 refl c.in-Err.ensures.err,
     )
 
@@ -91,7 +91,7 @@ returns-in-Err c =
     let op = c.args.op in
     let may = c.in_default.ensures d.opening d.tables in
     let fits : FitsSession v op = subst (λ (ps : List Part). IsOperationOf v.names (held ps) op) c.as_slice.ensures.value (c.is_operation-fits.ensures.0 may.0) in
-    let V : Tables → LiveView = λ ts. record v { tables = ts } in
+    let same : record v { tables = held c.perform.new.tables.parts.items; factors = factors_in c.perform.new.tables.parts.items } ≡ v = (λ i. record v { tables = c.in-Err.ensures.err i; factors = c.perform.ensures.factors i }) in
     let D : Tables → DeskView = λ ts. desk_over d.opening ts v.tickets in
-    let P : LiveView → Type 0 = λ x. CallAnswered x (V (held c.perform.new.tables.parts.items)) t op called_as.NoMemory in
-    subst P c.self.view_is ((ap D c.in-Err.ensures.err, fits, may.1, may.2, c.in-Err.ensures.sure), ap V c.in-Err.ensures.err)
+    let P : LiveView → Type 0 = λ x. CallAnswered x (record v { tables = held c.perform.new.tables.parts.items; factors = factors_in c.perform.new.tables.parts.items }) t op called_as.NoMemory in
+    subst P c.self.view_is ((ap D c.in-Err.ensures.err, fits, may.1, may.2, c.in-Err.ensures.sure), same)

@@ -13,8 +13,8 @@ over-requires-clause-can c = λ few. can_open c.args.text.now c.in_ok-loaded.loa
 
 pub returns-clause-opened : goal.returns-clause-opened
 returns-clause-opened c =
-    let P : ℕ → Type 0 = λ n. IfOk c.over.result (HasOpened c.args.text.now n) in
-    subst P c.min.ensures (all_made c.args.text.now c.in_ok-loaded.loaded c.in_ok-loaded.ensures.input c.in_ok-loaded.ensures.loaded c.min.result c.over.result c.over.ensures.made)
+    let P : ℕ → Type 0 = λ n. IfOk c.over.result (HasOpened c.args.text.now c.args.seed n) in
+    subst P c.min.ensures (all_made c.args.text.now c.in_ok-loaded.loaded c.in_ok-loaded.ensures.input c.in_ok-loaded.ensures.loaded c.args.seed c.min.result c.over.result c.over.ensures.made)
 
 pub returns-clause-unopened : goal.returns-clause-unopened
 returns-clause-unopened c =

@@ -6,6 +6,7 @@ use Rattle.shard_tables.specs.Shards.{HasRoomFor, ShardView}
 use Rattle.shard_tables.specs.declared.part.Part.{Part}
 use Rattle.shard_tables.specs.Either.{shard_view}
 use Rattle.live_session.specs.Held.{held}
+use Rattle.live_session.proofs.Room.{factors_same}
 use Rattle.live_session.proofs.Whole.{exists, kind_kept, kinds_step, reply_kept, room_by, rooms_same, same_item, written_step}
 use Rattle.live_session.proofs.tables.LiveTablesAnswerer.answer.Goals as goal
 
@@ -33,6 +34,7 @@ returns-clause-step c =
         written_step ps c.op.inside.table c.args.op at c.requires.table c.index_mut.result.now is c.apply-reply.new.self (ap (λ (s : ShardView). s.container) c.apply-reply.ensures.after),
       ),
       rooms_same ps c.op.inside.table c.index_mut.result.now c.apply-reply.new.self (exists ps c.op.inside.table c.args.op at c.requires.table) is (ap (λ (s : ShardView). s.room) c.apply-reply.ensures.after),
+      factors_same ps c.op.inside.table c.index_mut.result.now c.apply-reply.new.self (exists ps c.op.inside.table c.args.op at c.requires.table) c.index_mut.ensures.value c.apply-reply.ensures.factor,
       search rules,
     )
 
