@@ -1,18 +1,16 @@
 -- The halls of the rounds: one round more leaves those before it as they were.
-use Rattle.std.proofs.Common.{◌≡◌, ℕ, suc, ◌+◌, ◌-◌, ◌<◌, ◌≤◌, ◌⊎◌, inl, inr, List, [], ◌∷◌, ◌++◌, length, length-append, length-drop, slice_get, take, drop, Option, Some, None, is_some, true, nat_lt, refl, sym, ap, ◌∙◌, subst, arith}
+use Rattle.std.proofs.Common.{◌≡◌, ℕ, suc, ◌+◌, ◌-◌, ◌<◌, ◌≤◌, ◌⊎◌, inl, inr, List, [], ◌∷◌, ◌++◌, length, length-append, length-drop, slice_get, take, drop, Some, is_some, true, nat_lt, refl, sym, ap, ◌∙◌, subst, arith}
 use Rattle.std.proofs.lemmas.Bool.Decides.{nat_tests}
 use Rattle.std.proofs.lemmas.List.{drop-append-le, take-append-le, take_all}
 use Rattle.std.proofs.lemmas.Option.{slice_get_within}
 use Rattle.session_values.proofs.Options.{get_front, get_last, stands}
-use Rattle.session_values.specs.Serial.{tables_before}
-use Rattle.session_values.specs.Opening.{Pair, tables_of}
+use Rattle.session_values.specs.Opening.{Pair}
 use Rattle.session_hall.specs.Closings.{ClosedView, IsDone}
-use Rattle.handler_check.specs.Resolved.{shape_of}
 use Rattle.declaration_insertion.specs.Program.{ProgramView}
 use Rattle.request_files.specs.Clients.{ClientsView}
 use Rattle.handler_machine.specs.Scripts.{meaning}
 use Rattle.client_feed.specs.Arrival.{Arrival}
-use Rattle.client_feed.specs.Rounds.{AreRounds, IsRound, last_hall, round_begin, session_by}
+use Rattle.client_feed.specs.Rounds.{AreRounds, IsRound, last_hall, round_begin}
 use Rattle.client_feed.proofs.Sessions.{asked, dropped, front_before}
 
 -- the last of a list with one more

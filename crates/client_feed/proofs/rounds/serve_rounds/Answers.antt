@@ -1,10 +1,24 @@
 -- A round goes on from the round before, and the last ends it.
-use Rattle.std.proofs.Common.{◌-◌, ◌∙◌, ℕ, List, length, sum, ap, refl, sym, subst, vec_capacity, arith}
+use Rattle.std.proofs.Common.{◌≡◌, ◌-◌, ◌∙◌, ℕ, List, [], None, length, sum, ap, refl, sym, subst, vec_capacity, arith}
+use Rattle.session_values.specs.declared.kind.TableKind.{TableKind}
 use Rattle.client_feed.specs.Ends.{GathererView}
 use Rattle.client_feed.specs.Rounds.{AreServed, ServedView}
-use Rattle.client_feed.proofs.Between.{last_between, last_reopens, last_shards, next_between, replies_fit}
+use Rattle.client_feed.proofs.Between.{first_between, last_between, last_reopens, last_shards, next_between, replies_fit}
 use Rattle.client_feed.proofs.Slices.{kept_long, slice_drawn, slice_served}
 use Rattle.client_feed.proofs.rounds.serve_rounds.Goals as goal
+
+pub rounds-init : goal.rounds-init
+rounds-init g c =
+    let left = c.left-requests.ensures.left in
+    let got = ap (λ (v : GathererView). length v.got) c.requires.gatherer in
+    let counts = ap (λ (v : GathererView). sum v.counts) c.requires.gatherer in
+    let all : c.left-requests.result ≡ sum c.args.work.now.clients.now.counts = omega (arith, left, got, counts) in
+    let many = c.in_ok-replies.ensures.capacity in
+    record {
+      between = first_between c.args.work.now.program.now c.args.work.now.opening.now c.args.work.now.clients.now c.args.sizes.callers c.args.sizes.shards c.args.gatherer.now c.in_ok-arrivals.arrivals c.in_ok-replies.replies.items (vec_capacity c.in_ok-replies.replies) None c.requires.gatherer
+          (c.in_ok-arrivals.ensures ∙ (λ i. record { list = []; room = all i })) c.in_ok-replies.ensures.items (omega (arith, all, many)) refl;
+      later = c.in_ok-shape.ensures.adds ∙ ap (λ (kinds : List TableKind). length kinds) c.in_ok-shape.ensures.kinds;
+    }
 
 pub serve_behind-requires-clause-last : goal.serve_behind-requires-clause-last
 serve_behind-requires-clause-last g c κs within =
