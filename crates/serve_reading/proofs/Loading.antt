@@ -3,7 +3,7 @@ use Rattle.std.proofs.Common.{◌≡◌, ℕ, Bool, true, false, List, [], ◌�
 use Rattle.std.specs.Prelude.{IsUtf8}
 use Rattle.session_values.specs.Limits.{max_input}
 use Rattle.session_values.specs.Names.{Begins}
-use Rattle.syntax_trees.specs.Mentions.{AreNamed, Mention, file_mentions}
+use Rattle.syntax_trees.specs.Mentions.{AreBelow, AreNamed, Mention, file_mentions}
 use Rattle.syntax_trees.proofs.Mentions.{below_kept}
 use Rattle.handler_syntax.proofs.TextsKept.{texts_kept}
 use Rattle.handler_syntax.specs.Language.{names_of, File, IsNamedFile, canonical_text, shown_text}
@@ -79,14 +79,19 @@ behind_tables old mid f ts rs opening e tables h = (tables.fine, ap (λ (ns : Li
 
 -- ---- sessions
 pub loaded : (parts : Parts) (l : Loaded) (old : List (List ℕ)) → IsProgramOf parts.handlers l.program → old ≡ names_of [] parts.handlers
-    → AreOpened old l.names l.program.file (table_rows_of parts) (rows_of parts) l.opening l.requests → IsNamedFile old l.program.file → IsLoaded parts l
-loaded parts l old program e read named =
+    → AreOpened old l.names l.program.file (table_rows_of parts) (rows_of parts) l.opening l.requests → IsNamedFile old l.program.file
+    → AreNamed old (file_mentions l.program.file) → l.handler_names ≡ length old → IsLoaded parts l
+loaded parts l old program e read named below many =
+    let more = read.kept in
     let r = subst (λ (ns : List (List ℕ)). AreOpened ns l.names l.program.file (table_rows_of parts) (rows_of parts) l.opening l.requests) e read in
     record {
       program_of = program;
       tables_fine = r.tables_fine;
       fine = r.fine;
       names_are = r.names_are;
+      handlers_are = many ∙ ap (λ (ns : List (List ℕ)). length ns) e;
+      handlers_first = omega (arith, many, ap length more.1, length-append old more.0);
+      handlers_below = subst (λ (n : ℕ). AreBelow n (file_mentions l.program.file)) (sym many) below;
       opening_is = r.opening_is;
       opens = r.opens;
       requests_are = r.requests_are ∙ ap (λ (ns : List (List ℕ)). map (request_of (opening_names_of parts) ns l.program.file) (rows_of parts)) r.names_are;

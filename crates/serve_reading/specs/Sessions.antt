@@ -13,7 +13,8 @@ use Rattle.table_lines.specs.TableRows.{ArePrintable as ArePrintableEntries, fir
 use Rattle.table_lines.specs.Opened.{opened_by}
 use Rattle.request_files.specs.Rows.{Row, names_behind}
 use Rattle.serve_faults.specs.Input.{Parts, is_divided}
-use Rattle.serve_faults.specs.Session.{all_names_of, opened_of, requests_of, request_fault, table_fault}
+use Rattle.syntax_trees.specs.Mentions.{AreBelow, file_mentions}
+use Rattle.serve_faults.specs.Session.{all_names_of, handler_names_of, opened_of, requests_of, request_fault, table_fault}
 use Rattle.serve_reading.specs.declared.session.Loaded.{Loaded}
 use Rattle.serve_reading.specs.Programs.{IsProgramOf}
 
@@ -29,6 +30,9 @@ pub record IsLoaded (parts : Parts) (l : Loaded) : Type 0 where
   pub tables_fine : table_fault parts l.program.file ≡ None
   pub fine : request_fault parts l.program.file ≡ None
   pub names_are : l.names ≡ all_names_of parts
+  pub handlers_are : l.handler_names ≡ length (handler_names_of parts)
+  pub handlers_first : l.handler_names ≤ length l.names
+  pub handlers_below : AreBelow l.handler_names (file_mentions l.program.file)
   pub opening_is : l.opening ≡ opened_of parts l.program.file
   pub opens : IsOpening (shape_of l.program.file) l.opening
   pub requests_are : l.requests ≡ requests_of parts l.program.file

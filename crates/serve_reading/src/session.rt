@@ -20,6 +20,8 @@ use table_lines::read_tables;
 #[derive(Drop)]
 pub struct Loaded {
     pub names: Names,
+    /// How many of the names are those of the handlers' part: they stand before the others.
+    pub handler_names: u32,
     pub program: Program,
     /// The entries with which the tables open.
     pub opening: Opening,
@@ -53,11 +55,13 @@ pub(crate) fn read_session(alloc: Global, parts: Divided<'_>) -> Result<Loaded, 
 {
     let mut names = names_of_input(alloc, parts.handlers, parts.tables, parts.requests);
     let program = read_program(alloc, parts.handlers, &mut names)?;
+    let handler_names = names.len();
     let checked = program.checked();
     let opening = read_tables(alloc, checked, parts.tables, parts.first_table, &mut names)?;
     let requests = read_requests(alloc, checked, parts.requests, parts.first, &mut names)?;
     Ok(Loaded {
         names,
+        handler_names,
         program,
         opening,
         requests,

@@ -16,7 +16,7 @@ returns-clause-loaded c =
     let t = c.in_ok-opening.ensures in
     let r = c.in_ok-requests.ensures in
     let o = both_read _ _ _ _ _ _ _ _ t.ok t.opening t.printable t.kept r.ok r.servable r.printable r.kept in
-    loaded _ _ c.read_program.new.names p.program p.names (rw e at o) p.named
+    loaded _ _ c.read_program.new.names p.program p.names (rw e at o) p.named p.printable c.len-handler_names.ensures.len
 
 pub returns-in_err-opening-clause-refused : goal.returns-in_err-opening-clause-refused
 returns-in_err-opening-clause-refused c =
