@@ -1,5 +1,6 @@
 -- Tickets that did nothing.
 use Rattle.std.proofs.Common.{◌≡◌, ℕ, zero, suc, ◌<◌, ◌≤◌, List, [], ◌∷◌, ◌++◌, Some, None, Option, Bool, true, false, cond, eqb, refl, sym, ◌∙◌, ap, subst, arith}
+use Rattle.std.proofs.lemmas.Bool.Decides.{nat_tests}
 use Rattle.session_values.specs.Tables.{Tables}
 use Rattle.symbolic_ops.specs.declared.symbol.Symbol.{Symbol}
 use Rattle.symbolic_ops.specs.Matching.{Covered}
@@ -11,17 +12,23 @@ use Rattle.driven_tickets.proofs.Keeping.{Run-append}
 abbrev rests : Tables → ℕ → DeskState
 rests ts n = record { tables = ts; next = n; at = λ t. None }
 
+abbrev Declared : Type 0
+Declared = Option (List Symbol)
+
+abbrev nothing : Declared
+nothing = Some []
+
 -- a ticket has begun, and declared nothing
 abbrev begun : Tables → ℕ → DeskState
-begun ts n = record { tables = ts; next = suc n; at = λ u. cond (eqb u n) (Some []) None }
+begun ts n = record { tables = ts; next = suc n; at = λ u. cond (eqb u n) nothing None }
 
 has_begun : (ts : Tables) (n : ℕ) → HasBegun (rests ts n) (begun ts n) []
 has_begun ts n = record { tables_still = refl; next_more = refl; at_is = λ u. refl }
 
-same_ticket : (n : ℕ) → cond (eqb n n) (Some []) None ≡ Some []
-same_ticket n = grind (arith)
+same_ticket : (n : ℕ) → ◌≡◌ {A = Declared} (cond (eqb n n) nothing None) nothing
+same_ticket n = let e : eqb n n ≡ true = grind (arith, nat_tests) in ap (λ (b : Bool). let o : Declared = cond b nothing None in o) e
 
-none_left : (b : Bool) → None ≡ cond b None (cond b (Some []) None)
+none_left : (b : Bool) → ◌≡◌ {A = Declared} None (cond b None (cond b nothing None))
 none_left true = refl
 none_left false = refl
 
@@ -38,7 +45,7 @@ pub idle_run : (ts : Tables) (n : ℕ) → Run (opened ts) (idle_tickets n) (res
 idle_run ts zero = refl
 idle_run ts (suc n) =
     Run-append (opened ts) (idle_tickets n) (Begins [] ∷ Ends n ∷ []) (rests ts n) (rests ts (suc n)) (idle_run ts n)
-    (begun ts n, has_begun ts n, rests ts (suc n), has_ended ts n, refl)
+    (begun ts n, has_begun ts n, (rests ts (suc n), has_ended ts n, refl))
 
 -- a desk without open tickets over the tables that it was opened over, whose tickets did nothing
 pub idle_desk : (ts : Tables) (n : ℕ) → IsDesk (record { opening = ts; tables = ts; next = n; tickets = []; acts = idle_tickets n })

@@ -25,7 +25,7 @@ use Rattle.serve_reading.specs.declared.session.Loaded.{Loaded}
 use Rattle.serve_reading.specs.declared.load_error.LoadError.{LoadError}
 use Rattle.serve_reading.specs.declared.load_error.LoadError.TheVariants as load_error
 use Rattle.serve_reading.specs.Reasons.{IsInputReason}
-use Rattle.serve_reading.specs.Sessions.{IsLoaded, IsSessionInput}
+use Rattle.serve_reading.specs.Sessions.{AreHandlersFirst, IsLoaded, IsSessionInput}
 use Rattle.serve_reading.proofs.Loading.{as_program}
 use Rattle.session_values.proofs.Named.{begins_same}
 use Rattle.serve_faults.proofs.PrintableTables.{opening_holds}
@@ -133,7 +133,7 @@ map_none : {X Y : Type 0} (g : X → Y) (xs : List X) → length (map g xs) ≡ 
 map_none g [] e = refl
 map_none g (x ∷ xs) e = absurd (omega (arith, e))
 
-module _ (text : Text) (l : Loaded) (input : IsSessionInput text) (is : IsLoaded (parts_of text) l) where
+module _ (text : Text) (l : Loaded) (input : IsSessionInput text) (is : IsLoaded (parts_of text) l) (first : AreHandlersFirst (parts_of text) l) where
   abbrev parts : Parts
   parts = parts_of text
 
@@ -144,8 +144,8 @@ module _ (text : Text) (l : Loaded) (input : IsSessionInput text) (is : IsLoaded
   can_open most few = record {
     accepted = (as_program parts.handlers l.program is.program_of).accepted;
     opens = is.opens;
-    handlers_below = is.handlers_below;
-    handlers_first = is.handlers_first;
+    handlers_below = first.handlers_below;
+    handlers_first = first.handlers_first;
     named = is.named;
     known = handlers_known l.names l.program.file is.named;
     printable = is.printable_opening;
@@ -173,7 +173,7 @@ module _ (text : Text) (l : Loaded) (input : IsSessionInput text) (is : IsLoaded
         opened_are = is.opening_is;
         first_are = is.names_are ∙ ap (names_behind (opening_names_of parts)) bare ∙ behind_nil (opening_names_of parts);
         names_are = refl;
-        handlers_are = is.handlers_are;
+        handlers_are = first.handlers_are;
         most_is = refl;
         tables_are = refl;
         seed_is = refl;

@@ -34,7 +34,7 @@ use Rattle.serve_reading.specs.declared.load_error.LoadError.{LoadError}
 use Rattle.serve_reading.specs.declared.load_error.LoadError.TheVariants.{Refused, NoMemory}
 use Rattle.serve_reading.specs.Programs.{Describes, IsDeclared, IsParsed, IsProgramOf}
 use Rattle.serve_reading.specs.Reasons.{IsFileReason, IsLinesReason, IsReason, IsSessionReason, IsSyntaxReason}
-use Rattle.serve_reading.specs.Sessions.{AreOpened, IsLoaded}
+use Rattle.serve_reading.specs.Sessions.{AreHandlersFirst, AreOpened, IsLoaded}
 
 abbrev pub as_program : (text : List ℕ) (p : ProgramView) → IsProgramOf text p → IsProgram text p.file
 as_program text p h = record { form = h.form; accepted = h.accepted; lists = p.lists; later = h.later }
@@ -79,19 +79,14 @@ behind_tables old mid f ts rs opening e tables h = (tables.fine, ap (λ (ns : Li
 
 -- ---- sessions
 pub loaded : (parts : Parts) (l : Loaded) (old : List (List ℕ)) → IsProgramOf parts.handlers l.program → old ≡ names_of [] parts.handlers
-    → AreOpened old l.names l.program.file (table_rows_of parts) (rows_of parts) l.opening l.requests → IsNamedFile old l.program.file
-    → AreNamed old (file_mentions l.program.file) → l.handler_names ≡ length old → IsLoaded parts l
-loaded parts l old program e read named below many =
-    let more = read.kept in
+    → AreOpened old l.names l.program.file (table_rows_of parts) (rows_of parts) l.opening l.requests → IsNamedFile old l.program.file → IsLoaded parts l
+loaded parts l old program e read named =
     let r = subst (λ (ns : List (List ℕ)). AreOpened ns l.names l.program.file (table_rows_of parts) (rows_of parts) l.opening l.requests) e read in
     record {
       program_of = program;
       tables_fine = r.tables_fine;
       fine = r.fine;
       names_are = r.names_are;
-      handlers_are = many ∙ ap (λ (ns : List (List ℕ)). length ns) e;
-      handlers_first = omega (arith, many, ap length more.1, length-append old more.0);
-      handlers_below = subst (λ (n : ℕ). AreBelow n (file_mentions l.program.file)) (sym many) below;
       opening_is = r.opening_is;
       opens = r.opens;
       requests_are = r.requests_are ∙ ap (λ (ns : List (List ℕ)). map (request_of (opening_names_of parts) ns l.program.file) (rows_of parts)) r.names_are;
@@ -100,6 +95,14 @@ loaded parts l old program e read named below many =
       printable_opening = r.printable_opening;
       printable = r.printable;
     }
+
+-- the names of the handlers stand before all others
+pub handlers_first : (parts : Parts) (l : Loaded) (old : List (List ℕ)) → old ≡ names_of [] parts.handlers → Begins old l.names → AreNamed old (file_mentions l.program.file) → l.handler_names ≡ length old → AreHandlersFirst parts l
+handlers_first parts l old is more below many = record {
+  handlers_are = many ∙ ap (λ (ns : List (List ℕ)). length ns) is;
+  handlers_first = omega (arith, many, ap length more.1, length-append old more.0);
+  handlers_below = subst (λ (n : ℕ). AreBelow n (file_mentions l.program.file)) (sym many) below;
+}
 
 -- why lines were refused is why the session is
 pub lines_reason : (parts : Parts) (p : ProgramView) (old : List (List ℕ)) (e : LoadError) → IsProgramOf parts.handlers p → old ≡ names_of [] parts.handlers → IsLinesReason old p.file (table_rows_of parts) (rows_of parts) e → IsSessionReason parts e

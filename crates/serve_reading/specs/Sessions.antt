@@ -30,9 +30,6 @@ pub record IsLoaded (parts : Parts) (l : Loaded) : Type 0 where
   pub tables_fine : table_fault parts l.program.file ≡ None
   pub fine : request_fault parts l.program.file ≡ None
   pub names_are : l.names ≡ all_names_of parts
-  pub handlers_are : l.handler_names ≡ length (handler_names_of parts)
-  pub handlers_first : l.handler_names ≤ length l.names
-  pub handlers_below : AreBelow l.handler_names (file_mentions l.program.file)
   pub opening_is : l.opening ≡ opened_of parts l.program.file
   pub opens : IsOpening (shape_of l.program.file) l.opening
   pub requests_are : l.requests ≡ requests_of parts l.program.file
@@ -40,6 +37,13 @@ pub record IsLoaded (parts : Parts) (l : Loaded) : Type 0 where
   pub named : IsNamedFile l.names l.program.file
   pub printable_opening : ArePrintableEntries l.names l.opening
   pub printable : ArePrintable l.names l.requests
+
+-- so many of its names, the first ones, are those of the handlers' part, and its file mentions no
+-- others
+pub record AreHandlersFirst (parts : Parts) (l : Loaded) : Type 0 where
+  pub handlers_are : l.handler_names ≡ length (handler_names_of parts)
+  pub handlers_first : l.handler_names ≤ length l.names
+  pub handlers_below : AreBelow l.handler_names (file_mentions l.program.file)
 
 -- table rows and requests without a fault, over the names of a file: these are their entries and
 -- requests, with the names behind both
