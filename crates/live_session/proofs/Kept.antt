@@ -6,8 +6,12 @@ use Rattle.std.specs.List.{list_any}
 use Rattle.session_values.specs.declared.value.Value.{Value}
 use Rattle.session_values.specs.declared.value.Value.TheVariants.{Nil, Num, Sym}
 use Rattle.session_values.specs.Opening.{Pair}
+use Rattle.std.specs.Str.{bytes_eq}
+use Rattle.session_values.specs.Names.{AreDistinct, with_text}
+use Rattle.session_values.proofs.NamesLemmas.{with_new}
 use Rattle.text_lines.specs.Text.{Text}
-use Rattle.live_session.specs.Moving.{HasName, flag, kept, marked, marked_by, marked_by_all, marked_first, set_before}
+use Rattle.live_session.specs.Moving.{HasName, flag, kept, marked, marked_by, marked_by_all, marked_first, place_in, set_before}
+use Rattle.live_session.proofs.Seeds.{not_before}
 
 -- ---- the names that are kept
 -- a name that is kept has its text at its new place
@@ -59,17 +63,33 @@ first_kept (suc n) (true ∷ fs) (x ∷ ts) h = ap (λ (l : List Text). x ∷ l)
 first_kept (suc n) (false ∷ fs) (x ∷ ts) h = absurd (false≢true (h 0 (omega arith)))
 
 -- ---- one name after another
+pub kept_nil : (fs : List Bool) → kept fs [] ≡ []
+kept_nil [] = refl
+kept_nil (b ∷ fs) = refl
+
+pub set_few : (i : ℕ) (fs : List Bool) → set_before i fs ≤ i
+set_few zero fs = omega arith
+set_few (suc i) [] = omega arith
+set_few (suc i) (true ∷ fs) = omega (arith, set_few i fs)
+set_few (suc i) (false ∷ fs) = omega (arith, set_few i fs)
+
+pub set_more : (i : ℕ) (fs : List Bool) → flag fs i ≡ true → set_before (i + 1) fs ≡ set_before i fs + 1
+set_more i fs h = subst (λ (n : ℕ). set_before n fs ≡ set_before i fs + 1) (let e : suc i ≡ i + 1 = omega arith in e) (go i fs h)
+  where
+    go : (i : ℕ) (fs : List Bool) → flag fs i ≡ true → set_before (suc i) fs ≡ set_before i fs + 1
+    go i [] h = absurd (false≢true h)
+    go zero (true ∷ fs) h = refl
+    go zero (false ∷ fs) h = absurd (false≢true h)
+    go (suc i) (true ∷ fs) h = omega (arith, go i fs h)
+    go (suc i) (false ∷ fs) h = go i fs h
+
 pub kept_more : (fs : List Bool) (ts : List Text) (i : ℕ) (t : Text) → flag fs i ≡ true → slice_get ts i ≡ Some t → kept fs (take (i + 1) ts) ≡ kept fs (take i ts) ++ t ∷ []
 kept_more fs ts i t f h = subst (λ (n : ℕ). kept fs (take n ts) ≡ kept fs (take i ts) ++ t ∷ []) (let e : suc i ≡ i + 1 = omega arith in e) (go fs ts i f h)
   where
     go : (fs : List Bool) (ts : List Text) (i : ℕ) → flag fs i ≡ true → slice_get ts i ≡ Some t → kept fs (take (suc i) ts) ≡ kept fs (take i ts) ++ t ∷ []
     go [] ts i f h = absurd (false≢true f)
     go (b ∷ fs) [] i f h = absurd (cc)
-    go (true ∷ fs) (x ∷ ts) zero f h = let e : x ≡ t = cc in nil_kept fs x ∙ ap (λ (y : Text). y ∷ []) e
-      where
-        nil_kept : (fs : List Bool) (x : Text) → x ∷ kept fs [] ≡ x ∷ []
-        nil_kept [] x = refl
-        nil_kept (b ∷ fs) x = refl
+    go (true ∷ fs) (x ∷ ts) zero f h = let e : x ≡ t = cc in ap (λ (l : List Text). x ∷ l) (kept_nil fs) ∙ ap (λ (y : Text). y ∷ []) e
     go (false ∷ fs) (x ∷ ts) zero f h = absurd (false≢true f)
     go (true ∷ fs) (x ∷ ts) (suc i) f h = ap (λ (l : List Text). x ∷ l) (go fs ts i f h)
     go (false ∷ fs) (x ∷ ts) (suc i) f h = go fs ts i f h
@@ -77,16 +97,12 @@ kept_more fs ts i t f h = subst (λ (n : ℕ). kept fs (take n ts) ≡ kept fs (
 pub kept_same : (fs : List Bool) (ts : List Text) (i : ℕ) → flag fs i ≡ false → i < length fs → kept fs (take (i + 1) ts) ≡ kept fs (take i ts)
 kept_same fs ts i f l = subst (λ (n : ℕ). kept fs (take n ts) ≡ kept fs (take i ts)) (let e : suc i ≡ i + 1 = omega arith in e) (go fs ts i f l)
   where
-    none_kept : (fs : List Bool) → kept fs [] ≡ []
-    none_kept [] = refl
-    none_kept (b ∷ fs) = refl
-
     go : (fs : List Bool) (ts : List Text) (i : ℕ) → flag fs i ≡ false → i < length fs → kept fs (take (suc i) ts) ≡ kept fs (take i ts)
     go [] ts i f l = absurd (omega (arith, l))
     go (b ∷ fs) [] zero f l = refl
     go (b ∷ fs) [] (suc i) f l = refl
     go (true ∷ fs) (x ∷ ts) zero f l = absurd (false≢true (sym f))
-    go (false ∷ fs) (x ∷ ts) zero f l = none_kept fs
+    go (false ∷ fs) (x ∷ ts) zero f l = kept_nil fs
     go (true ∷ fs) (x ∷ ts) (suc i) f l = ap (λ (k : List Text). x ∷ k) (go fs ts i f (omega (arith, l)))
     go (false ∷ fs) (x ∷ ts) (suc i) f l = go fs ts i f (omega (arith, l))
 
@@ -112,6 +128,14 @@ none_kept p (false ∷ fs) (x ∷ ts) h = none_kept p fs ts (second (p x) (list_
     second : (a b : Bool) → (a || b) ≡ false → b ≡ false
     second true b e = absurd (false≢true (sym e))
     second false b e = e
+
+-- as many as at first, where the first flags are set
+pub first_few : (n : ℕ) (fs : List Bool) (ts : List Text) → ((i : ℕ) → i < n → flag fs i ≡ true) → n ≤ length ts → n ≤ length (kept fs ts)
+first_few zero fs ts h l = omega arith
+first_few (suc n) [] ts h l = absurd (false≢true (h 0 (omega arith)))
+first_few (suc n) (b ∷ fs) [] h l = absurd (omega (arith, l))
+first_few (suc n) (true ∷ fs) (x ∷ ts) h l = omega (arith, first_few n fs ts (λ i m. h (suc i) (omega (arith, m))) (omega (arith, l)))
+first_few (suc n) (false ∷ fs) (x ∷ ts) h l = absurd (false≢true (h 0 (omega arith)))
 
 -- ---- flags
 set_long : (fs : List Bool) (p : ℕ) → length (slice_set fs p true) ≡ length fs
@@ -187,7 +211,7 @@ by_from fs (e ∷ es) i h = elim (by_from (marked (marked fs e.0) e.1) es i h) [
 ]
 
 -- one of some lists has the name
-pub HasNameIn : List (List Pair) → ℕ → Type 0
+abbrev pub HasNameIn : List (List Pair) → ℕ → Type 0
 HasNameIn [] i = ⊥
 HasNameIn (es ∷ lists) i = HasName es i ⊎ HasNameIn lists i
 
@@ -205,7 +229,7 @@ first_long fs (suc n) = set_long (marked_first fs n) n ∙ first_long fs n
 
 first_here : (fs : List Bool) (n i : ℕ) → i < n → i < length fs → flag (marked_first fs n) i ≡ true
 first_here fs zero i l m = absurd (omega (arith, l))
-first_here fs (suc n) i l m = go (nat_cases i n l)
+first_here fs (suc n) i l m = go (λ a. first_here fs n i a m) (nat_cases i n l)
   where
     nat_cases : (i n : ℕ) → i < suc n → (i < n) ⊎ (i ≡ n)
     nat_cases zero zero l = inr refl
@@ -213,9 +237,9 @@ first_here fs (suc n) i l m = go (nat_cases i n l)
     nat_cases (suc i) zero l = absurd (omega (arith, l))
     nat_cases (suc i) (suc n) l = elim (nat_cases i n (omega (arith, l))) [ inl a ↦ inl (omega (arith, a)) | inr e ↦ inr (ap suc e) ]
 
-    go : (i < n) ⊎ (i ≡ n) → flag (marked_first fs (suc n)) i ≡ true
-    go (inl a) = set_stays (marked_first fs n) n i (first_here fs n i a m)
-    go (inr e) =
+    go : (i < n → flag (marked_first fs n) i ≡ true) → (i < n) ⊎ (i ≡ n) → flag (marked_first fs (suc n)) i ≡ true
+    go more (inl a) = set_stays (marked_first fs n) n i (more a)
+    go more (inr e) =
         let same = first_long fs n in
         subst (λ (k : ℕ). flag (slice_set (marked_first fs n) n true) k ≡ true) (sym e) (set_here (marked_first fs n) n (omega (arith, same, m, e)))
 
@@ -278,3 +302,33 @@ by_more fs es i e h = subst (λ (n : ℕ). marked_by fs (take n es) ≡ marked (
 pub all_push : (fs : List Bool) (lists : List (List Pair)) (es : List Pair) → marked_by_all fs (lists ++ es ∷ []) ≡ marked_by (marked_by_all fs lists) es
 all_push fs [] es = refl
 all_push fs (x ∷ lists) es = all_push (marked_by fs x) lists es
+
+-- ---- names that are placed
+-- the next name that is kept is placed behind those before it
+pub placed_kept : (fs : List Bool) (ns : List Text) (i : ℕ) (t : Text) (new : List Text) → new ≡ kept fs (take i ns) → AreDistinct ns → flag fs i ≡ true → slice_get ns i ≡ Some t → with_text new t ≡ kept fs (take (i + 1) ns)
+placed_kept fs ns i t new is d f h =
+    ap (λ (l : List Text). with_text l t) is
+    ∙ with_new (kept fs (take i ns)) t (none_kept (bytes_eq t) fs (take i ns) (not_before ns i t d h))
+    ∙ sym (kept_more fs ns i t f h)
+
+push_at : (xs : List ℕ) (n i : ℕ) → slice_index_or (xs ++ n ∷ []) (length xs) 0 ≡ n
+push_at [] n i = refl
+push_at (x ∷ xs) n i = push_at xs n i
+
+push_before : (xs : List ℕ) (n i : ℕ) → i < length xs → slice_index_or (xs ++ n ∷ []) i 0 ≡ slice_index_or xs i 0
+push_before [] n i l = absurd (omega (arith, l))
+push_before (x ∷ xs) n zero l = refl
+push_before (x ∷ xs) n (suc i) l = push_before xs n i (omega (arith, l))
+
+pub place_pushed : (fs : List Bool) (n : ℕ) (xs ys : List ℕ) (x : ℕ) → ys ≡ xs ++ x ∷ [] → ((i : ℕ) → i < n → place_in xs i ≡ set_before i fs) → length xs ≡ n → x ≡ set_before n fs → (i : ℕ) → i < n + 1 → place_in ys i ≡ set_before i fs
+place_pushed fs n xs ys x is before long here i l = ap (λ (zs : List ℕ). slice_index_or zs i 0) is ∙ go (nat_cases i n (omega (arith, l)))
+  where
+    nat_cases : (i n : ℕ) → i < suc n → (i < n) ⊎ (i ≡ n)
+    nat_cases zero zero l = inr refl
+    nat_cases zero (suc n) l = inl (omega arith)
+    nat_cases (suc i) zero l = absurd (omega (arith, l))
+    nat_cases (suc i) (suc n) l = elim (nat_cases i n (omega (arith, l))) [ inl a ↦ inl (omega (arith, a)) | inr e ↦ inr (ap suc e) ]
+
+    go : (i < n) ⊎ (i ≡ n) → slice_index_or (xs ++ x ∷ []) i 0 ≡ set_before i fs
+    go (inl a) = push_before xs x i (omega (arith, a, long)) ∙ before i a
+    go (inr e) = ap (λ (k : ℕ). slice_index_or (xs ++ x ∷ []) k 0) (e ∙ sym long) ∙ push_at xs x i ∙ here ∙ ap (λ (k : ℕ). set_before k fs) (sym e)

@@ -5,6 +5,7 @@ pub mod DrivenActs
 pub mod DumpLemmas
 pub mod EntriesPrinted
 pub mod Faults
+pub mod Filled
 pub mod Keeping
 pub mod Kept
 pub mod Lines

@@ -57,6 +57,20 @@ sym_same p q e = cc
 some_same : (x y : Value) → ◌≡◌ {A = Option Value} (Some x) (Some y) → x ≡ y
 some_same x y e = cc
 
+-- the entry from which one with this key and this value moved
+record Back (f : ℕ → ℕ) (es : List Pair) (k v : Value) : Type 0 where
+  key : Value
+  value : Value
+  at : find value_cmp key es ≡ Some value
+  key_is : k ≡ moved f key
+  value_is : v ≡ moved f value
+
+-- the member from which this one moved
+record Member (f : ℕ → ℕ) (es : List Pair) (k : Value) : Type 0 where
+  key : Value
+  at : list_any (value_eq key) (keys es) ≡ true
+  key_is : k ≡ moved f key
+
 module _ (P : ℕ → Type 0) (f : ℕ → ℕ) (one : (i j : ℕ) → P i → P j → f i ≡ f j → i ≡ j) where
   same_moved : (x y : Value) → IsNameOf P x → IsNameOf P y → moved f x ≡ moved f y → x ≡ y
   same_moved Nil Nil a b e = refl
@@ -103,15 +117,12 @@ module _ (P : ℕ → Type 0) (f : ℕ → ℕ) (one : (i j : ℕ) → P i → P
   found_moved [] k v n a h = cc
   found_moved (e ∷ es) k v n a h = go (value_eq k e.0) refl h (found_moved es k v n.1 a)
     where
-      abbrev rest : Option Value
-      rest = find value_cmp (moved f k) (moved_entries f es)
-
-      go : (b : Bool) → value_eq k e.0 ≡ b → cond b (Some e.1) (find value_cmp k es) ≡ Some v → (find value_cmp k es ≡ Some v → rest ≡ Some (moved f v)) → cond (value_eq (moved f k) (moved f e.0)) (Some (moved f e.1)) rest ≡ Some (moved f v)
+      go : (b : Bool) → value_eq k e.0 ≡ b → cond b (Some e.1) (find value_cmp k es) ≡ Some v → (find value_cmp k es ≡ Some v → (find value_cmp (moved f k) (moved_entries f es)) ≡ Some (moved f v)) → cond (value_eq (moved f k) (moved f e.0)) (Some (moved f e.1)) (find value_cmp (moved f k) (moved_entries f es)) ≡ Some (moved f v)
       go true e0 h more =
           let same : k ≡ e.0 = same_value k e.0 e0 in
           let here : value_eq (moved f k) (moved f e.0) ≡ true = ap (λ (z : Value). value_eq (moved f k) (moved f z)) (sym same) ∙ value_eq-self (moved f k) in
-          ap (λ (c : Bool). cond c (Some (moved f e.1)) rest) here ∙ ap (λ (z : Value). Some (moved f z)) (some_same e.1 v h)
-      go false e0 h more = ap (λ (c : Bool). cond c (Some (moved f e.1)) rest) (apart_moved k e.0 a n.0.0 e0) ∙ more h
+          ap (λ (c : Bool). cond c (Some (moved f e.1)) (find value_cmp (moved f k) (moved_entries f es))) here ∙ ap (λ (z : Value). Some (moved f z)) (some_same e.1 v h)
+      go false e0 h more = ap (λ (c : Bool). cond c (Some (moved f e.1)) (find value_cmp (moved f k) (moved_entries f es))) (apart_moved k e.0 a n.0.0 e0) ∙ more h
 
   -- ---- the whole table
   pub map_moved : (es : List Pair) → NamesOf P es → IsMoved f (container_of Map es) (container_of Map (moved_entries f es))
@@ -124,24 +135,17 @@ module _ (P : ℕ → Type 0) (f : ℕ → ℕ) (one : (i j : ℕ) → P i → P
     (b.key, b.value, map.get-from_entries value_cmp_total es b.key ∙ b.at, b.key_is, b.value_is),
   )
     where
-      record Back (es : List Pair) (k v : Value) : Type 0 where
-        key : Value
-        value : Value
-        at : find value_cmp key es ≡ Some value
-        key_is : k ≡ moved f key
-        value_is : v ≡ moved f value
-
-      back : (es : List Pair) (k v : Value) → find value_cmp k (moved_entries f es) ≡ Some v → Back es k v
+      back : (es : List Pair) (k v : Value) → find value_cmp k (moved_entries f es) ≡ Some v → Back f es k v
       back [] k v h = cc
       back (e ∷ es) k v h = go (value_eq k (moved f e.0)) refl h (back es k v)
         where
-          further : (d : Bool) (r : Back es k v) → value_eq k (moved f e.0) ≡ false → value_eq r.key e.0 ≡ d → Back (e ∷ es) k v
-          further false r no d = record { key = r.key; value = r.value; at = ap (λ (c : Bool). let o : Option Value = cond c (Some e.1) (find value_cmp r.key es) in o) d ∙ r.at; key_is = r.key_is; value_is = r.value_is }
-          further true r no d =
+          further : (d : Bool) (r : Back f es k v) → value_eq k (moved f e.0) ≡ false → value_eq r.key e.0 ≡ d → Back f (e ∷ es) k v
+          further false r none d = record { key = r.key; value = r.value; at = ap (λ (c : Bool). let o : Option Value = cond c (Some e.1) (find value_cmp r.key es) in o) d ∙ r.at; key_is = r.key_is; value_is = r.value_is }
+          further true r none d =
               let same : k ≡ moved f e.0 = r.key_is ∙ ap (moved f) (same_value r.key e.0 d) in
-              absurd (false≢true (sym no ∙ ap (λ (z : Value). value_eq k z) (sym same) ∙ value_eq-self k))
+              absurd (false≢true (sym none ∙ ap (λ (z : Value). value_eq k z) (sym same) ∙ value_eq-self k))
 
-          go : (b : Bool) → value_eq k (moved f e.0) ≡ b → cond b (Some (moved f e.1)) (find value_cmp k (moved_entries f es)) ≡ Some v → (find value_cmp k (moved_entries f es) ≡ Some v → Back es k v) → Back (e ∷ es) k v
+          go : (b : Bool) → value_eq k (moved f e.0) ≡ b → cond b (Some (moved f e.1)) (find value_cmp k (moved_entries f es)) ≡ Some v → (find value_cmp k (moved_entries f es) ≡ Some v → Back f es k v) → Back f (e ∷ es) k v
           go true e0 h more = record {
             key = e.0;
             value = e.1;
@@ -163,16 +167,11 @@ module _ (f : ℕ → ℕ) where
           ap (λ (c : Bool). c || list_any (value_eq (moved f k)) (keys (moved_entries f es))) here
       go false e0 h more = or_right (value_eq (moved f k) (moved f e.0)) (list_any (value_eq (moved f k)) (keys (moved_entries f es))) (more h)
 
-  record Member (es : List Pair) (k : Value) : Type 0 where
-    key : Value
-    at : list_any (value_eq key) (keys es) ≡ true
-    key_is : k ≡ moved f key
-
-  member_back : (es : List Pair) (k : Value) → list_any (value_eq k) (keys (moved_entries f es)) ≡ true → Member es k
+  member_back : (es : List Pair) (k : Value) → list_any (value_eq k) (keys (moved_entries f es)) ≡ true → Member f es k
   member_back [] k h = absurd (false≢true h)
   member_back (e ∷ es) k h = go (value_eq k (moved f e.0)) refl h (member_back es k)
     where
-      go : (b : Bool) → value_eq k (moved f e.0) ≡ b → (b || list_any (value_eq k) (keys (moved_entries f es))) ≡ true → (list_any (value_eq k) (keys (moved_entries f es)) ≡ true → Member es k) → Member (e ∷ es) k
+      go : (b : Bool) → value_eq k (moved f e.0) ≡ b → (b || list_any (value_eq k) (keys (moved_entries f es))) ≡ true → (list_any (value_eq k) (keys (moved_entries f es)) ≡ true → Member f es k) → Member f (e ∷ es) k
       go true e0 h more = record { key = e.0; at = ap (λ (c : Bool). c || list_any (value_eq e.0) (keys es)) (value_eq-self e.0); key_is = same_value k (moved f e.0) e0 }
       go false e0 h more = let r = more h in record { key = r.key; at = or_right (value_eq r.key e.0) (list_any (value_eq r.key) (keys es)) r.at; key_is = r.key_is }
 

@@ -7,7 +7,7 @@ use Rattle.session_values.specs.Tables.{kind_of}
 use Rattle.shard_tables.specs.Slots.{factor_of}
 use Rattle.shard_tables.specs.declared.part.Part.{Part}
 use Rattle.text_lines.specs.Text.{Text}
-use Rattle.live_session.specs.declared.renewing.Renewed.{Renewed}
+use Rattle.live_session.specs.declared.renewing.Replacement.{Replacement}
 use Rattle.live_session.specs.Held.{factors_in, held, lists_in}
 use Rattle.live_session.specs.Moving.{kept, marked_by_all, marked_first, moved_entries, place_in, set_before}
 
@@ -16,7 +16,7 @@ abbrev pub held_flags : ℕ → ℕ → List (List Pair) → List Bool
 held_flags count first lists = marked_by_all (marked_first (replicate count false) first) lists
 
 -- the names that are kept, and the tables with the places that these have
-pub record IsRenewal (names : List Text) (first seed : ℕ) (ps : List Part) (r : Renewed) : Type 0
+pub record IsRenewal (names : List Text) (first seed : ℕ) (ps : List Part) (r : Replacement) : Type 0
   where
     pub places : List ℕ
     pub distinct : AreDistinct names

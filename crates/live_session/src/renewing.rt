@@ -47,7 +47,7 @@ pub(crate) struct Kept {
 
 /// What a renewal puts in place of what there was.
 #[derive(Drop)]
-pub(crate) struct Renewed {
+pub(crate) struct Replacement {
     names: Names,
     tables: LiveTables,
     history: History,
@@ -221,14 +221,14 @@ fn renewed(
     first: u32,
     tables: &LiveTables,
     seed: u64,
-) -> Result<Renewed, NoMemory>
+) -> Result<Replacement, NoMemory>
     ensures { IfOk result (IsRenewal names.now first seed tables.now.parts.items) }
 {
     let flags = held_names(alloc, names.len(), first, tables.parts.as_slice())?;
     let kept = kept_names(alloc, names, flags.as_slice(), seed)?;
     let tables_now = moved_tables(alloc, tables, kept.places.as_slice(), seed)?;
     let history = History::renewed(&kept, tables);
-    Ok(Renewed {
+    Ok(Replacement {
         names: kept.names,
         tables: tables_now,
         history,
