@@ -18,7 +18,7 @@ pub record Acted (d e : DeskView) (a : Act) : Type 0 where
   pub ascending : AreAscending 0 e.tickets e.next
 
 -- acts that follow one another
-Run-append : (p : DeskState) (acts more : List Act) (q r : DeskState) → Run p acts q → Run q more r → Run p (acts ++ more) r
+pub Run-append : (p : DeskState) (acts more : List Act) (q r : DeskState) → Run p acts q → Run q more r → Run p (acts ++ more) r
 Run-append p [] more q r h k = let P : DeskState → Type 0 = λ x. Run x more r in subst P h k
 Run-append p (b ∷ acts) more q r h k = (h.0, h.1, Run-append h.0 acts more q r h.2 k)
 

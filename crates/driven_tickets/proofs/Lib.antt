@@ -5,6 +5,7 @@ pub mod Declared
 pub mod Delays
 pub mod EmptyStruct
 pub mod Following
+pub mod Idle
 pub mod InTheWay
 pub mod Keeping
 pub mod Matched

@@ -1,5 +1,5 @@
 -- Tickets that a program drives: what a desk holds, what each act leaves, and runs of acts.
-use Rattle.std.specs.Prelude.{◌≡◌, ℕ, suc, ◌<◌, ◌==◌, List, [], ◌∷◌, ◌++◌, Option, Some, None, cond}
+use Rattle.std.specs.Prelude.{◌≡◌, ℕ, zero, suc, ◌<◌, ◌==◌, List, [], ◌∷◌, ◌++◌, Option, Some, None, cond}
 use Rattle.session_values.specs.declared.op.Op.{Op}
 use Rattle.session_values.specs.declared.value.Value.{Value}
 use Rattle.session_values.specs.Dialogue.{Entry}
@@ -99,3 +99,8 @@ calls_of t (e ∷ es) = Calls t e.op e.reply ∷ calls_of t es
 -- a ticket that begins with this list, does these operations and ends, and nobody else between
 abbrev pub whole_ticket : ℕ → List Symbol → List Entry → List Act
 whole_ticket t f es = Begins f ∷ calls_of t es ++ Ends t ∷ []
+
+-- so many tickets that began and ended, and did nothing
+abbrev pub idle_tickets : ℕ → List Act
+idle_tickets zero = []
+idle_tickets (suc n) = idle_tickets n ++ whole_ticket n [] []

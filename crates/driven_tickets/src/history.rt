@@ -1,7 +1,7 @@
 // What was done with tickets.
 
 ghost use Rattle.std.specs.Prelude.{◌≡◌, List, [], ◌∷◌, ◌++◌};
-ghost use Rattle.driven_tickets.specs.Acts.{Act, Begins, Calls, Ends, Narrows};
+ghost use Rattle.driven_tickets.specs.Acts.{Act, Begins, Calls, Ends, Narrows, idle_tickets};
 
 use session_values::{Op, Value};
 use std::marker::Model;
@@ -27,6 +27,13 @@ impl History {
     /// Nothing was done, and this is the number of the first ticket.
     pub(crate) fn opened(_next: &u64) -> History
         ensures { result ≡ record { acts = [] } }
+    {
+        History {}
+    }
+
+    /// All tickets below this number began and ended, and did nothing.
+    pub(crate) fn idle(_next: &u64) -> History
+        ensures { result ≡ record { acts = idle_tickets _next.now } }
     {
         History {}
     }

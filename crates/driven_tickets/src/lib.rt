@@ -28,6 +28,7 @@ mod open_ticket;
 mod open_tickets;
 mod origin;
 mod place;
+mod resting;
 mod standing;
 mod telling;
 

@@ -25,7 +25,7 @@ use Rattle.live_session.specs.Live.{IsLive, LiveView, dump_of}
 use Rattle.live_session.proofs.EntriesPrinted.{entries_printed}
 
 -- the entries of tables of these kinds make them
-tables_whole : (shape : List TableKind) (ps : List Part) → map kind_of (held ps) ≡ shape → tables_of shape (lists_in ps) ≡ held ps
+pub tables_whole : (shape : List TableKind) (ps : List Part) → map kind_of (held ps) ≡ shape → tables_of shape (lists_in ps) ≡ held ps
 tables_whole [] [] e = refl
 tables_whole [] (p ∷ ps) e = cc
 tables_whole (k ∷ shape) [] e = cc

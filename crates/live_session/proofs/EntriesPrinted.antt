@@ -20,7 +20,7 @@ abbrev keys : List Pair → List Value
 keys es = map_list (λ (e : Pair). e.0) es
 
 -- what is found of later entries, each key once, is found of all
-later : (x e : Pair) (es : List Pair) → has_key es e.0 ≡ false → find value_cmp x.0 es ≡ Some x.1 → find value_cmp x.0 (e ∷ es) ≡ Some x.1
+pub later : (x e : Pair) (es : List Pair) → has_key es e.0 ≡ false → find value_cmp x.0 es ≡ Some x.1 → find value_cmp x.0 (e ∷ es) ≡ Some x.1
 later x e es none at = go (value_eq x.0 e.0) refl
   where
     go : (b : Bool) → value_eq x.0 e.0 ≡ b → cond b (Some e.1) (find value_cmp x.0 es) ≡ Some x.1

@@ -5,12 +5,16 @@ pub mod DrivenActs
 pub mod DumpLemmas
 pub mod EntriesPrinted
 pub mod Faults
+pub mod Filled
 pub mod Keeping
+pub mod Kept
 pub mod Lines
+pub mod Moved
 pub mod OneFile
 pub mod OneRow
 pub mod OpenLemmas
 pub mod Reading
+pub mod Renewed
 pub mod Room
 pub mod Runs
 pub mod Said

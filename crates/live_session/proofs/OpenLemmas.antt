@@ -16,6 +16,7 @@ use Rattle.text_lines.proofs.RowLemmas.{behind_nil, rows_nil}
 use Rattle.request_files.specs.declared.request.Request.{Request}
 use Rattle.request_files.specs.Requests.{request_of}
 use Rattle.shard_tables.specs.declared.part.Part.{Part}
+use Rattle.shard_tables.specs.Slots.{factor_of}
 use Rattle.serve_faults.specs.Input.{Parts, parts_of}
 use Rattle.serve_faults.specs.Session.{all_names_of, opening_names_of, rows_of}
 use Rattle.serve_faults.specs.declared.status.Fault.{Fault}
@@ -24,7 +25,7 @@ use Rattle.serve_reading.specs.declared.session.Loaded.{Loaded}
 use Rattle.serve_reading.specs.declared.load_error.LoadError.{LoadError}
 use Rattle.serve_reading.specs.declared.load_error.LoadError.TheVariants as load_error
 use Rattle.serve_reading.specs.Reasons.{IsInputReason}
-use Rattle.serve_reading.specs.Sessions.{IsLoaded, IsSessionInput}
+use Rattle.serve_reading.specs.Sessions.{AreHandlersFirst, IsLoaded, IsSessionInput}
 use Rattle.serve_reading.proofs.Loading.{as_program}
 use Rattle.session_values.proofs.Named.{begins_same}
 use Rattle.serve_faults.proofs.PrintableTables.{opening_holds}
@@ -39,6 +40,11 @@ use Rattle.live_session.specs.Openings.{CanOpen, HasOpened, IsFileOf, IsMade, Is
 use Rattle.live_session.specs.Served.{AreServed, line_fault}
 use Rattle.live_session.proofs.Lines.{handlers_known}
 
+-- the factor of each table is the seed's
+all_seeded : (seed : ℕ) (ts : Tables) → AllByRecursion (λ (n : ℕ). n ≡ factor_of seed) (seeded seed ts)
+all_seeded seed [] = tt
+all_seeded seed (t ∷ ts) = (refl, all_seeded seed ts)
+
 -- ---- no line was served
 first_live : (l : Loaded) (seed most : ℕ) → IsProgram l.program → CanOpen l most → IsLive (first_view l seed most)
 first_live l seed most program can =
@@ -47,14 +53,17 @@ first_live l seed most program can =
     record {
       program = program;
       accepted = can.accepted;
-      opens = can.opens;
+      opens = can.opens.entries;
       named = can.named;
       known = can.known;
+      handlers_below = can.handlers_below;
+      handlers_first = can.handlers_first;
       printable = can.printable;
       fine = subst (λ (rs : List Row). AllByRecursion (λ (r : Row). line_fault l.names l.program.file r ≡ None) rs) (sym none) tt;
       begins = begins_same l.names;
       few = can.few;
       prints = opening_holds l.names (shape_of l.program.file) l.opening can.printable;
+      seeded = all_seeded seed v.tables;
       desk = record { ascending = omega arith; run = refl };
       names_are = λ alone. sym (ap (names_behind l.names) none ∙ behind_nil l.names);
       served = λ alone. subst (λ (rs : List Row). AreServed l.program.file v.tables (map (request_of l.names l.names l.program.file) rs) [] v.tables) (sym none) refl;
@@ -69,16 +78,19 @@ abbrev none_open : TicketsView
 none_open = record { next = 0; tickets = []; acts = [] }
 
 -- what is seen of a session over this file, with this history
-abbrev seen : Loaded → ℕ → List Text → Tables → List ℕ → TicketsView → History → LiveView
-seen l most names ts fs k h = record {
+abbrev seen : Loaded → (seed most : ℕ) → List Text → Tables → List ℕ → TicketsView → History → LiveView
+seen l seed most names ts fs k h = record {
   file = l.program.file;
   lists = l.program.lists;
   opened = h.opened;
   first_names = h.first_names;
+  handler_names = l.handler_names;
   most_names = most;
   names = names;
   tables = ts;
+  seed = seed;
   factors = fs;
+  generation = 0;
   tickets = k;
   driven = h.driven;
   lines = h.lines;
@@ -86,11 +98,11 @@ seen l most names ts fs k h = record {
 }
 
 -- the same names, tables as they open and a history that begins are seen so
-pub seen_first : (l : Loaded) (seed most : ℕ) (names : List Text) (ts : Tables) (fs : List ℕ) (k : TicketsView) (h : History) → names ≡ l.names → ts ≡ tables_of (shape_of l.program.file) l.opening → fs ≡ seeded seed ts → k ≡ none_open → h ≡ begun l names → seen l most names ts fs k h ≡ first_view l seed most
+pub seen_first : (l : Loaded) (seed most : ℕ) (names : List Text) (ts : Tables) (fs : List ℕ) (k : TicketsView) (h : History) → names ≡ l.names → ts ≡ tables_of (shape_of l.program.file) l.opening → fs ≡ seeded seed ts → k ≡ none_open → h ≡ begun l names → seen l seed most names ts fs k h ≡ first_view l seed most
 seen_first l seed most names ts fs k h same is factors none begins =
-    (λ i. seen l most names ts (factors i) (none i) (begins i)) ∙ (λ i. seen l most (same i) (is i) (seeded seed (is i)) none_open (begun l (same i)))
+    (λ i. seen l seed most names ts (factors i) (none i) (begins i)) ∙ (λ i. seen l seed most (same i) (is i) (seeded seed (is i)) none_open (begun l (same i)))
 
-pub live_made : (l : Loaded) (seed most : ℕ) → IsProgram l.program → CanOpen l most → (names : List Text) (ts : Tables) (fs : List ℕ) (k : TicketsView) (h : History) → names ≡ l.names → ts ≡ tables_of (shape_of l.program.file) l.opening → fs ≡ seeded seed ts → k ≡ none_open → h ≡ begun l names → IsLive (seen l most names ts fs k h)
+pub live_made : (l : Loaded) (seed most : ℕ) → IsProgram l.program → CanOpen l most → (names : List Text) (ts : Tables) (fs : List ℕ) (k : TicketsView) (h : History) → names ≡ l.names → ts ≡ tables_of (shape_of l.program.file) l.opening → fs ≡ seeded seed ts → k ≡ none_open → h ≡ begun l names → IsLive (seen l seed most names ts fs k h)
 live_made l seed most program can names ts fs k h same is factors none begins =
     subst IsLive (sym (seen_first l seed most names ts fs k h same is factors none begins)) (first_live l seed most program can)
 
@@ -121,7 +133,7 @@ map_none : {X Y : Type 0} (g : X → Y) (xs : List X) → length (map g xs) ≡ 
 map_none g [] e = refl
 map_none g (x ∷ xs) e = absurd (omega (arith, e))
 
-module _ (text : Text) (l : Loaded) (input : IsSessionInput text) (is : IsLoaded (parts_of text) l) where
+module _ (text : Text) (l : Loaded) (input : IsSessionInput text) (is : IsLoaded (parts_of text) l) (first : AreHandlersFirst (parts_of text) l) where
   abbrev parts : Parts
   parts = parts_of text
 
@@ -132,6 +144,8 @@ module _ (text : Text) (l : Loaded) (input : IsSessionInput text) (is : IsLoaded
   can_open most few = record {
     accepted = (as_program parts.handlers l.program is.program_of).accepted;
     opens = is.opens;
+    handlers_below = first.handlers_below;
+    handlers_first = first.handlers_first;
     named = is.named;
     known = handlers_known l.names l.program.file is.named;
     printable = is.printable_opening;
@@ -159,9 +173,12 @@ module _ (text : Text) (l : Loaded) (input : IsSessionInput text) (is : IsLoaded
         opened_are = is.opening_is;
         first_are = is.names_are ∙ ap (names_behind (opening_names_of parts)) bare ∙ behind_nil (opening_names_of parts);
         names_are = refl;
+        handlers_are = first.handlers_are;
         most_is = refl;
         tables_are = refl;
+        seed_is = refl;
         factors_are = refl;
+        first_generation = refl;
         no_tickets = refl;
         none_driven = refl;
         no_lines = refl;

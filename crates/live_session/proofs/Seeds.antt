@@ -42,9 +42,9 @@ front_more (x ∷ xs) (suc n) t h =
     let e : suc n + 1 ≡ suc (n + 1) = omega arith in
     ap (λ (l : List Text). x ∷ l) (front_more xs n t h) ∙ ap (λ (m : ℕ). take m (x ∷ xs)) (sym e)
 
--- one name more is placed
-pub placed_more : (names : List Text) (n : ℕ) (t : Text) → AreDistinct names → slice_get names n ≡ Some t → with_text (take n names) t ≡ take (n + 1) names
-placed_more names n t d h = with_new (take n names) t (new (list_any (bytes_eq t) (take n names)) refl) ∙ front_more names n t h
+-- a name doesn't stand before itself
+pub not_before : (names : List Text) (n : ℕ) (t : Text) → AreDistinct names → slice_get names n ≡ Some t → list_any (bytes_eq t) (take n names) ≡ false
+not_before names n t d h = new (list_any (bytes_eq t) (take n names)) refl
   where
     new : (b : Bool) → list_any (bytes_eq t) (take n names) ≡ b → list_any (bytes_eq t) (take n names) ≡ false
     new false e = e
@@ -53,6 +53,10 @@ placed_more names n t d h = with_new (take n names) t (new (list_any (bytes_eq t
         let k = among_first names n m.at t m.is in
         let same : m.at ≡ n = d m.at n t k.1 h in
         absurd (omega (arith, k.0, same))
+
+-- one name more is placed
+pub placed_more : (names : List Text) (n : ℕ) (t : Text) → AreDistinct names → slice_get names n ≡ Some t → with_text (take n names) t ≡ take (n + 1) names
+placed_more names n t d h = with_new (take n names) t (not_before names n t d h) ∙ front_more names n t h
 
 -- one table more, whose factor is the seed's
 pub seeded_more : (seed : ℕ) (ps : List Part) (p : Part) (qs : List Part) → qs ≡ ps ++ p ∷ [] → factors_in ps ≡ seeded seed (held ps) → (index_in p).factor ≡ factor_of seed → factors_in qs ≡ seeded seed (held qs)

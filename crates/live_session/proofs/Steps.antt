@@ -167,12 +167,15 @@ module _ (v : LiveView) (live : IsLive v) (most : v.most_names ≤ 4000000000) (
     opens = live.opens;
     named = live.named;
     known = live.known;
+    handlers_below = live.handlers_below;
+    handlers_first = live.handlers_first;
     printable = live.printable;
     fine = subst (AllByRecursion (λ (r : Row). line_fault first f r ≡ None)) (sym rows_are)
         (all_push (λ (r : Row). line_fault first f r ≡ None) (rows_in v) row live.fine (ap (fault_at f row) (sym handler_same) ∙ one.ok.fine));
     begins = first_new;
     few = one.ok.few;
     prints = subst (AllByRecursion (IsPrintableTable new)) (sym one.left) said.after;
+    seeded = live.seeded;
     desk = desk_after;
     names_are = λ alone. names_on alone;
     served = λ alone. served_on alone;
@@ -204,5 +207,8 @@ module _ (v : LiveView) (live : IsLive v) (most : v.most_names ≤ 4000000000) (
     lists_still = refl;
     opened_still = refl;
     first_still = refl;
+    handlers_still = refl;
     most_still = refl;
+    seed_still = refl;
+    generation_still = refl;
   }

@@ -69,7 +69,10 @@ pub record LineServed (v : LiveView) (line : Text) (r : Row) (text : Text) (w : 
   pub lists_still : w.lists ≡ v.lists
   pub opened_still : w.opened ≡ v.opened
   pub first_still : w.first_names ≡ v.first_names
+  pub handlers_still : w.handler_names ≡ v.handler_names
   pub most_still : w.most_names ≡ v.most_names
+  pub seed_still : w.seed ≡ v.seed
+  pub generation_still : w.generation ≡ v.generation
 
 -- nothing changed, and nothing was written
 abbrev pub IsStill : LiveView → Text → LiveView → Type 0

@@ -6,6 +6,9 @@ pub mod Dumps
 pub mod Entries
 pub mod Held
 pub mod Live
+pub mod Moving
 pub mod Naming
 pub mod Openings
+pub mod Renewal
+pub mod Renewing
 pub mod Served

@@ -12,7 +12,9 @@ use Rattle.text_lines.specs.Text.{Text}
 use Rattle.request_files.specs.Requests.{AreKnown}
 use Rattle.serve_faults.specs.TableRows.{ArePrintable}
 use Rattle.serve_faults.specs.Input.{parts_of}
-use Rattle.serve_faults.specs.Session.{IsSession, all_names_of, opened_of, opening_names_of}
+use Rattle.syntax_trees.specs.Mentions.{AreBelow, file_mentions}
+use Rattle.serve_faults.specs.Session.{IsSession, all_names_of, handler_names_of, opened_of}
+use Rattle.serve_faults.specs.Session.{opening_names_of}
 use Rattle.serve_faults.specs.Session.{rows_of}
 use Rattle.serve_faults.specs.declared.status.Fault.TheVariants.{TooLarge}
 use Rattle.serve_reading.specs.declared.session.Loaded.{Loaded}
@@ -35,10 +37,13 @@ first_view l seed most = record {
   lists = l.program.lists;
   opened = l.opening;
   first_names = l.names;
+  handler_names = l.handler_names;
   most_names = most;
   names = l.names;
   tables = tables_of (shape_of l.program.file) l.opening;
+  seed = seed;
   factors = seeded seed (tables_of (shape_of l.program.file) l.opening);
+  generation = 0;
   tickets = record { next = 0; tickets = []; acts = [] };
   driven = 0;
   lines = [];
@@ -54,9 +59,12 @@ pub record HasOpened (text : Text) (seed most : ℕ) (v : LiveView) : Type 0 whe
   pub opened_are : v.opened ≡ opened_of (parts_of text) v.file
   pub first_are : v.first_names ≡ opening_names_of (parts_of text)
   pub names_are : v.names ≡ v.first_names
+  pub handlers_are : v.handler_names ≡ length (handler_names_of (parts_of text))
   pub most_is : v.most_names ≡ most
   pub tables_are : v.tables ≡ tables_of (shape_of v.file) v.opened
+  pub seed_is : v.seed ≡ seed
   pub factors_are : v.factors ≡ seeded seed v.tables
+  pub first_generation : v.generation ≡ 0
   pub no_tickets : v.tickets ≡ record { next = 0; tickets = []; acts = [] }
   pub none_driven : v.driven ≡ 0
   pub no_lines : v.lines ≡ []
@@ -81,6 +89,8 @@ IsUnopened text most unopened.NoMemory = Unit {0}
 pub record CanOpen (l : Loaded) (most : ℕ) : Type 0 where
   pub accepted : IsAccepted l.program.file
   pub opens : IsOpening (shape_of l.program.file) l.opening
+  pub handlers_below : AreBelow l.handler_names (file_mentions l.program.file)
+  pub handlers_first : l.handler_names ≤ length l.names
   pub named : IsNamedFile l.names l.program.file
   pub known : AreKnown l.names l.program.file
   pub printable : ArePrintable l.names l.opening

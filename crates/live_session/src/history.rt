@@ -1,9 +1,13 @@
 // What was served by a session.
 
-ghost use Rattle.std.specs.Prelude.{◌≡◌, ℕ, suc, List, [], ◌∷◌, ◌++◌};
+ghost use Rattle.std.specs.Prelude.{◌≡◌, ℕ, suc, List, [], ◌∷◌, ◌++◌, map};
 ghost use Rattle.session_values.specs.declared.reply.Reply.{Reply as Given};
 ghost use Rattle.session_values.specs.Opening.{Pair};
+ghost use Rattle.live_session.specs.Held.{lists_in};
+ghost use Rattle.live_session.specs.Moving.{moved_entries, place_in};
 
+use crate::renewing::Kept;
+use crate::tables::LiveTables;
 use session_values::{Names, Opening, Reply};
 use std::marker::Model;
 
@@ -34,6 +38,20 @@ impl History {
         ensures { result ≡ record {
           opened = _opening.now;
           first_names = _names.now;
+          driven = 0;
+          lines = [];
+          replies = [];
+        } }
+    {
+        History {}
+    }
+
+    /// The names were renewed, over these tables: what was done is forgotten.
+    pub(crate) fn renewed(_kept: &Kept, _tables: &LiveTables) -> History
+        ensures { result ≡ record {
+          opened = map (moved_entries (place_in _kept.now.places.items))
+              (lists_in _tables.now.parts.items);
+          first_names = _kept.now.names;
           driven = 0;
           lines = [];
           replies = [];

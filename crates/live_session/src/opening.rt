@@ -33,7 +33,7 @@ use shard_tables::Part;
 use std::alloc::Global;
 
 /// For how many keys more than it opens with a table has room at first.
-const FIRST_ROOM: u32 = 16;
+pub(crate) const FIRST_ROOM: u32 = 16;
 
 /// The most names of any session.
 const MOST_NAMES: u32 = 4_000_000_000;
@@ -146,9 +146,12 @@ fn made(alloc: Global, loaded: Loaded, seed: u64, most_names: u32) -> Result<Liv
         alloc,
         program: loaded.program,
         adds,
+        handler_names: loaded.handler_names,
         most_names,
         names,
         tables,
+        seed,
+        generation: 0,
         args: Arguments { values },
         scratch,
         tickets,

@@ -33,9 +33,15 @@ pub struct LiveSession {
     pub(crate) program: Program,
     /// How many keys each handler may add to each table, by table.
     pub(crate) adds: Vec<[u32; MAX_HANDLERS]>,
+    /// How many names, the first ones, are those of the handlers' part.
+    pub(crate) handler_names: u32,
     pub(crate) most_names: u32,
     pub(crate) names: Names,
     pub(crate) tables: LiveTables,
+    /// By which searches begin, in the tables and among the names.
+    pub(crate) seed: u64,
+    /// How often the names were renewed.
+    pub(crate) generation: u64,
     /// Room for the arguments of a request.
     pub(crate) args: Arguments,
     /// Room for the variables of a handler, and for what it declares.
@@ -63,10 +69,13 @@ impl Model for LiveSession {
       lists = s.program.lists;
       opened = s.history.opened;
       first_names = s.history.first_names;
+      handler_names = s.handler_names;
       most_names = s.most_names;
       names = s.names;
       tables = held s.tables.parts.items;
+      seed = s.seed;
       factors = factors_in s.tables.parts.items;
+      generation = s.generation;
       tickets = s.tickets;
       driven = s.history.driven;
       lines = s.history.lines;
@@ -78,10 +87,13 @@ impl Model for LiveSession {
       lists = s.program.lists;
       opened = s.history.opened;
       first_names = s.history.first_names;
+      handler_names = s.handler_names;
       most_names = s.most_names;
       names = s.names;
       tables = held s.tables.parts.items;
+      seed = s.seed;
       factors = factors_in s.tables.parts.items;
+      generation = s.generation;
       tickets = s.tickets;
       driven = s.history.driven;
       lines = s.history.lines;

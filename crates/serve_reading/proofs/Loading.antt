@@ -3,7 +3,7 @@ use Rattle.std.proofs.Common.{◌≡◌, ℕ, Bool, true, false, List, [], ◌�
 use Rattle.std.specs.Prelude.{IsUtf8}
 use Rattle.session_values.specs.Limits.{max_input}
 use Rattle.session_values.specs.Names.{Begins}
-use Rattle.syntax_trees.specs.Mentions.{AreNamed, Mention, file_mentions}
+use Rattle.syntax_trees.specs.Mentions.{AreBelow, AreNamed, Mention, file_mentions}
 use Rattle.syntax_trees.proofs.Mentions.{below_kept}
 use Rattle.handler_syntax.proofs.TextsKept.{texts_kept}
 use Rattle.handler_syntax.specs.Language.{names_of, File, IsNamedFile, canonical_text, shown_text}
@@ -34,7 +34,7 @@ use Rattle.serve_reading.specs.declared.load_error.LoadError.{LoadError}
 use Rattle.serve_reading.specs.declared.load_error.LoadError.TheVariants.{Refused, NoMemory}
 use Rattle.serve_reading.specs.Programs.{Describes, IsDeclared, IsParsed, IsProgramOf}
 use Rattle.serve_reading.specs.Reasons.{IsFileReason, IsLinesReason, IsReason, IsSessionReason, IsSyntaxReason}
-use Rattle.serve_reading.specs.Sessions.{AreOpened, IsLoaded}
+use Rattle.serve_reading.specs.Sessions.{AreHandlersFirst, AreOpened, IsLoaded}
 
 abbrev pub as_program : (text : List ℕ) (p : ProgramView) → IsProgramOf text p → IsProgram text p.file
 as_program text p h = record { form = h.form; accepted = h.accepted; lists = p.lists; later = h.later }
@@ -95,6 +95,14 @@ loaded parts l old program e read named =
       printable_opening = r.printable_opening;
       printable = r.printable;
     }
+
+-- the names of the handlers stand before all others
+pub handlers_first : (parts : Parts) (l : Loaded) (old : List (List ℕ)) → old ≡ names_of [] parts.handlers → Begins old l.names → AreNamed old (file_mentions l.program.file) → l.handler_names ≡ length old → AreHandlersFirst parts l
+handlers_first parts l old is more below many = record {
+  handlers_are = many ∙ ap (λ (ns : List (List ℕ)). length ns) is;
+  handlers_first = omega (arith, many, ap length more.1, length-append old more.0);
+  handlers_below = subst (λ (n : ℕ). AreBelow n (file_mentions l.program.file)) (sym many) below;
+}
 
 -- why lines were refused is why the session is
 pub lines_reason : (parts : Parts) (p : ProgramView) (old : List (List ℕ)) (e : LoadError) → IsProgramOf parts.handlers p → old ≡ names_of [] parts.handlers → IsLinesReason old p.file (table_rows_of parts) (rows_of parts) e → IsSessionReason parts e

@@ -1,5 +1,5 @@
 -- What is made of a session file whose requests are several clients' before they are served.
-use Rattle.std.specs.Prelude.{◌≡◌, ℕ, ◌≤◌, List}
+use Rattle.std.specs.Prelude.{◌≡◌, ℕ, ◌≤◌, List, length}
 use Rattle.session_values.specs.OpeningLimits.{max_table_lines}
 use Rattle.session_values.specs.Opening.{count_all}
 use Rattle.request_files.specs.Clients.{AreShared, row_counts, unmarked}
@@ -13,10 +13,11 @@ use Rattle.serve_reading.specs.Sessions.{IsLoaded}
 abbrev pub joined_parts : Parts → Parts
 joined_parts p = parts_by p.handlers p.tables (unmarked p.requests) p.first_table p.first
 
--- the session of the requests of all clients
+-- the session of the requests of all clients, where all its names are taken for the handlers'
 abbrev pub joined : LoadedClients → Loaded
 joined l = record {
   names = l.names;
+  handler_names = length l.names;
   program = l.program;
   opening = l.opening;
   requests = l.clients.requests;

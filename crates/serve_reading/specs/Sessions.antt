@@ -13,7 +13,8 @@ use Rattle.table_lines.specs.TableRows.{ArePrintable as ArePrintableEntries, fir
 use Rattle.table_lines.specs.Opened.{opened_by}
 use Rattle.request_files.specs.Rows.{Row, names_behind}
 use Rattle.serve_faults.specs.Input.{Parts, is_divided}
-use Rattle.serve_faults.specs.Session.{all_names_of, opened_of, requests_of, request_fault, table_fault}
+use Rattle.syntax_trees.specs.Mentions.{AreBelow, file_mentions}
+use Rattle.serve_faults.specs.Session.{all_names_of, handler_names_of, opened_of, requests_of, request_fault, table_fault}
 use Rattle.serve_reading.specs.declared.session.Loaded.{Loaded}
 use Rattle.serve_reading.specs.Programs.{IsProgramOf}
 
@@ -36,6 +37,13 @@ pub record IsLoaded (parts : Parts) (l : Loaded) : Type 0 where
   pub named : IsNamedFile l.names l.program.file
   pub printable_opening : ArePrintableEntries l.names l.opening
   pub printable : ArePrintable l.names l.requests
+
+-- so many of its names, the first ones, are those of the handlers' part, and its file mentions no
+-- others
+pub record AreHandlersFirst (parts : Parts) (l : Loaded) : Type 0 where
+  pub handlers_are : l.handler_names ≡ length (handler_names_of parts)
+  pub handlers_first : l.handler_names ≤ length l.names
+  pub handlers_below : AreBelow l.handler_names (file_mentions l.program.file)
 
 -- table rows and requests without a fault, over the names of a file: these are their entries and
 -- requests, with the names behind both

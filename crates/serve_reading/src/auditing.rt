@@ -119,6 +119,7 @@ fn read_traced(
     let loaded = read_session(alloc, parts)?;
     let Loaded {
         mut names,
+        handler_names: _,
         program,
         opening,
         requests,

@@ -6,7 +6,8 @@ use Rattle.serve_faults.specs.declared.status.Fault.TheVariants as fault
 use Rattle.serve_reading.specs.Reasons.{IsSessionReason}
 use Rattle.serve_reading.specs.declared.load_error.LoadError.TheVariants.{Refused}
 use Rattle.serve_reading.proofs.Exits.{exit_named}
-use Rattle.serve_reading.proofs.Loading.{behind_tables, both_read, lines_reason, loaded}
+use Rattle.session_values.proofs.Named.{begins_then}
+use Rattle.serve_reading.proofs.Loading.{behind_tables, both_read, handlers_first, lines_reason, loaded}
 use Rattle.serve_reading.proofs.session.read_session.Goals as goal
 
 pub returns-clause-loaded : goal.returns-clause-loaded
@@ -17,6 +18,14 @@ returns-clause-loaded c =
     let r = c.in_ok-requests.ensures in
     let o = both_read _ _ _ _ _ _ _ _ t.ok t.opening t.printable t.kept r.ok r.servable r.printable r.kept in
     loaded _ _ c.read_program.new.names p.program p.names (rw e at o) p.named
+
+pub returns-clause-first : goal.returns-clause-first
+returns-clause-first c =
+    let p = c.in_ok-program.ensures in
+    let e = c.checked-checked.ensures.file in
+    let t = c.in_ok-opening.ensures in
+    let r = c.in_ok-requests.ensures in
+    handlers_first _ _ c.read_program.new.names p.names (begins_then _ _ _ t.kept r.kept) p.printable c.len-handler_names.ensures.len
 
 pub returns-in_err-opening-clause-refused : goal.returns-in_err-opening-clause-refused
 returns-in_err-opening-clause-refused c =
