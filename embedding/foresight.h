@@ -29,12 +29,13 @@ enum foresight_status {
     /* The buffer is too small: it holds a prefix of the text, and `needed` is the full length. A
      * call with a buffer of that size succeeds if memory suffices. */
     FORESIGHT_WRITE_FAULT = 5,
-    /* No call returns 2 (usage) or 4 (read fault). These three are of foresight_explain alone. */
-    /* There is no such form. */
+    /* No call returns 2 (usage) or 4 (read fault). The next three come from foresight_explain
+     * alone. There is no such form. */
     FORESIGHT_UNREAD = 10,
     /* The name isn't UTF-8. */
     FORESIGHT_NOT_TEXT = 16,
-    /* The line is no refusal's, or names a place that the text doesn't have. */
+    /* The line is no refusal's, or names a place that the text doesn't have; or one of the two is
+     * longer than 4,294,967,294 bytes. */
     FORESIGHT_UNEXPLAINED = 17
 };
 
