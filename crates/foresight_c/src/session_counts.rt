@@ -60,12 +60,7 @@ fn put_symbols(room: &mut [COperation], list: &[Symbol])
 }
 
 // Puts what an open ticket has declared at the front of a room, and tells how many symbols it is.
-fn declared_at(
-    session: &LiveSession,
-    ticket: u64,
-    out: &mut [COperation],
-    size: &mut usize,
-) -> u8
+fn declared_at(session: &LiveSession, ticket: u64, out: &mut [COperation], size: &mut usize) -> u8
     ensures { DeclaredAt session.now ticket out.old out.new size.old size.new result }
 {
     match session.declared(ticket) {
