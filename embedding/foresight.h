@@ -28,8 +28,15 @@ enum foresight_status {
     FORESIGHT_NO_MEMORY = 3,
     /* The buffer is too small: it holds a prefix of the text, and `needed` is the full length. A
      * call with a buffer of that size succeeds if memory suffices. */
-    FORESIGHT_WRITE_FAULT = 5
-    /* No call returns 2 (usage) or 4 (read fault). */
+    FORESIGHT_WRITE_FAULT = 5,
+    /* No call returns 2 (usage) or 4 (read fault). The next three come from foresight_explain
+     * alone. There is no such form. */
+    FORESIGHT_UNREAD = 10,
+    /* The name isn't UTF-8. */
+    FORESIGHT_NOT_TEXT = 16,
+    /* The line is no refusal's, or names a place that the text doesn't have; or one of the two is
+     * longer than 4,294,967,294 bytes. */
+    FORESIGHT_UNEXPLAINED = 17
 };
 
 /* A buffer of this size holds every message. */
@@ -82,6 +89,23 @@ uint8_t foresight_serve(const uint8_t *text, size_t text_size, uint8_t *out, siz
  * tables of a next session, if its file stays within 100,000 entries and 4,194,304 bytes. */
 uint8_t foresight_dump(const uint8_t *text, size_t text_size, uint8_t *out, size_t out_size,
     uint8_t *message, size_t message_size, struct foresight_answer *answer);
+
+/* The forms of foresight_explain. */
+enum foresight_form {
+    /* The place, its line with a caret, and lines of advice, each after `= `. */
+    FORESIGHT_FORM_TEXT = 0,
+    /* One JSON object on a line, with the members advice, column, file, line, rule and sentence. */
+    FORESIGHT_FORM_JSON = 1
+};
+
+/* What a refusal means, in plain words, with its line, column and advice: as `foresight_where`, but
+ * no file is read. `refusal` is the message that a call wrote when it returned 1, with its line feed
+ * or without, and `text` the text that was refused, whose name here is `name`. It tells of refusals
+ * of the calls above, and of foresight_session_open. There is no message: `told` is 0, and with any
+ * status but 0 and 5 nothing is written to `out`. */
+uint8_t foresight_explain(const uint8_t *text, size_t text_size, const uint8_t *name,
+    size_t name_size, const uint8_t *refusal, size_t refusal_size, uint8_t form, uint8_t *out,
+    size_t out_size, struct foresight_answer *answer);
 
 /* ---- Values and operations, for the calls over a handle of foresight_tickets.h and
  * foresight_session.h. */

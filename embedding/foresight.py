@@ -15,10 +15,13 @@ import secrets
 import threading
 
 MESSAGE_ROOM = 256
+MOST_SYMBOLS = 256
 REPLIES_ROOM = 65536
-VERSION_NUMBER = 20000
+VERSION_NUMBER = 20100
 NIL, NUMBER, NAME, ANY = range(4)
 KINDS = ("get", "put", "swap", "del", "size", "bump", "has", "add", "mark", "drop", "count")
+# How many of key and value each kind has.
+_ARGUMENTS = (1, 2, 2, 1, 0, 2, 1, 1, 1, 1, 0)
 _KIND_NUMBERS = {kind: number for number, kind in enumerate(KINDS)}
 # What a status means that comes without a message.
 STATUSES = {
@@ -27,10 +30,9 @@ STATUSES = {
     11: "the object is closed",
     12: "more than 256 symbols, or no number is left for a ticket",
     13: "the ticket has not begun, or has ended",
-    14: "not every caller has finished",
     15: "too many names",
     16: "the text isn't UTF-8",
-    17: "the table has an entry of this key already",
+    17: "no refusal of this text",
     20: "a ticket is in the way",
     21: "the ticket hasn't declared this operation",
     22: "no such table, or it has no such operation, or a symbol that is no name of the session",
@@ -38,11 +40,13 @@ STATUSES = {
 
 
 class ForesightError(Exception):
-    """A call ended with this status."""
+    """A call ended with this status. Where a text was refused, `explanation` tells in plain words
+    where and why, with advice; else it is None."""
 
     def __init__(self, status, why):
         super().__init__(why)
         self.status = status
+        self.explanation = None
 
 
 class Refused(ForesightError):
@@ -70,6 +74,11 @@ class _Served(c.Structure):
         ("older", c.c_uint64)]
 
 
+class _Counts(c.Structure):
+    _fields_ = [("names", c.c_uint32), ("most_names", c.c_uint32), ("tables", c.c_size_t),
+                ("begun", c.c_uint64), ("open", c.c_size_t), ("oldest", c.c_uint64)]
+
+
 class _Value(c.Structure):
     _fields_ = [("sort", c.c_uint8), ("name", c.c_uint32), ("number", c.c_int64)]
 
@@ -86,7 +95,7 @@ def _loaded():
     library = c.CDLL(name)
     for call in ("session_open", "session_serve", "session_dump", "session_close", "session_begin",
                  "session_call", "session_narrow", "session_end", "session_name", "session_text",
-                 "tables_open",
+                 "session_counts", "session_size", "session_declared", "explain", "tables_open",
                  "ticket_begin", "ticket_call", "ticket_narrow", "ticket_end", "tables_close"):
         getattr(library, f"foresight_{call}").restype = c.c_uint8
     library.foresight_version.restype = c.c_uint32
@@ -105,6 +114,27 @@ def _error(status, why):
         return MemoryError("no memory")
     why = why or f"status {status}: {STATUSES.get(status, 'unknown')}"
     return (Refused if status in (1, 15) else ForesightError)(status, why)
+
+
+def explain(text, refusal, name="text", form="text"):
+    """What `foresight_where` tells of a refusal: of the line that a call said of a text, which goes
+    by this name. As "text" it has the place, its line and advice; as "json" it is one object. None
+    if the line is no refusal's, or names a place that the text doesn't have."""
+    number = ("text", "json").index(form)
+    text, name, refusal = (part.encode() if isinstance(part, str) else part
+                           for part in (text, name, refusal))
+    answer, status = _Answer(0, 4096, 0), 5
+    while status == 5:
+        size = answer.needed
+        out = c.create_string_buffer(size)
+        status = _library.foresight_explain(
+            text, c.c_size_t(len(text)), name, c.c_size_t(len(name)), refusal,
+            c.c_size_t(len(refusal)), c.c_uint8(number), out, c.c_size_t(size), c.byref(answer))
+    if status == 17:
+        return None
+    if status:
+        raise _error(status, None)
+    return out.raw[:answer.written].decode("utf-8", "replace")
 
 
 class _Kept:
@@ -156,7 +186,10 @@ class Session(_Kept):
             c.byref(self._handle), text, c.c_size_t(len(text)), c.c_uint64(seed),
             c.c_uint32(most_names), why, c.c_size_t(MESSAGE_ROOM), c.byref(answer))
         if status:
-            raise _error(status, why.raw[:answer.told].decode().strip())
+            error = _error(status, why.raw[:answer.told].decode().strip())
+            if isinstance(error, Refused):
+                error.explanation = explain(text, why.raw[:answer.told])
+            raise error
         # What each call of `serve` uses again, under the lock: made once, since that costs most of a
         # call of one line.
         self._why, self._served, self._size = why, _Served(), c.c_size_t()
@@ -239,6 +272,27 @@ class Session(_Kept):
         """Ends a ticket."""
         self._do(_library.foresight_session_end, c.c_uint64(ticket))
 
+    def counts(self):
+        """What the session holds: its `names` and the `most_names` that there may be, its `tables`,
+        the tickets that have `begun`, those that are `open`, and the `oldest` of these or None."""
+        counts = _Counts()
+        self._do(_library.foresight_session_counts, c.byref(counts))
+        held = {name: getattr(counts, name) for name, _ in _Counts._fields_}
+        return held if held["open"] else {**held, "oldest": None}
+
+    def size(self, table):
+        """How many entries the table of this number has."""
+        size = c.c_uint32()
+        self._do(_library.foresight_session_size, c.c_uint32(table), c.byref(size))
+        return size.value
+
+    def declared(self, ticket):
+        """What an open ticket has declared, as `begin` takes it."""
+        out, size = (_Operation * MOST_SYMBOLS)(), c.c_size_t()
+        self._do(_library.foresight_session_declared, c.c_uint64(ticket), out,
+                 c.c_size_t(MOST_SYMBOLS), c.byref(size))
+        return [_symbol(given) for given in out[:size.value]]
+
     def tables(self):
         """The tables, as `foresight dump` writes them."""
         why, answer, status = c.create_string_buffer(MESSAGE_ROOM), _Answer(0, REPLIES_ROOM, 0), 5
@@ -272,6 +326,12 @@ def _replied(reply):
     if reply.sort == NAME:
         return Name(reply.name)
     return reply.number if reply.sort == NUMBER else None
+
+
+def _symbol(given):
+    """A symbol, as `begin` takes it: its kind, its table, and what the kind has of key and value."""
+    arguments = (any if part.sort == ANY else _replied(part) for part in (given.key, given.value))
+    return (KINDS[given.kind], given.table, *list(arguments)[:_ARGUMENTS[given.kind]])
 
 
 def _list(declared):

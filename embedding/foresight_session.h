@@ -172,6 +172,35 @@ uint8_t foresight_session_name(struct foresight_session *session, const uint8_t 
 uint8_t foresight_session_text(struct foresight_session *session, uint32_t number, uint8_t *out,
     size_t out_size, size_t *size);
 
+/* ---- What a session holds. These calls change nothing. */
+
+struct foresight_counts {
+    /* Names of handlers, tables, variables and symbols together, and how many there may be. */
+    uint32_t names;
+    uint32_t most_names;
+    /* Tables: their numbers are those below this. */
+    size_t tables;
+    /* Tickets that have begun: each request that was served is one. */
+    uint64_t begun;
+    /* Tickets that are open, and the lowest number of one; 0 if none is open. */
+    size_t open;
+    uint64_t oldest;
+};
+
+/* Writes what the session holds to `counts`. */
+uint8_t foresight_session_counts(struct foresight_session *session,
+    struct foresight_counts *counts);
+
+/* Writes the number of entries of a table, keys or members, to `size`. 22: there is no such
+ * table. */
+uint8_t foresight_session_size(struct foresight_session *session, uint32_t table, uint32_t *size);
+
+/* Writes what an open ticket declares to the start of `declared`, as many symbols as the `room`
+ * takes, and their number to `size`: at most 256. 13: it isn't open. A ticket whose owner is gone is
+ * ended by foresight_session_end; what it did stays. */
+uint8_t foresight_session_declared(struct foresight_session *session, uint64_t ticket,
+    struct foresight_operation *declared, size_t room, size_t *size);
+
 /* Gives back all memory of the handle, and leaves FORESIGHT_NO_SESSION. */
 uint8_t foresight_session_close(struct foresight_session *session);
 

@@ -98,6 +98,28 @@ static inline uint8_t foresight_guard_session_text(struct foresight_session *ses
     return foresight_session_text(session, number, foresight_guard_room(out), out_size, size);
 }
 
+static inline uint8_t foresight_guard_counts(struct foresight_session *session,
+    struct foresight_counts *counts) {
+    if (session == NULL || counts == NULL) return FORESIGHT_SESSION_NULL;
+    return foresight_session_counts(session, counts);
+}
+
+static inline uint8_t foresight_guard_size(struct foresight_session *session, uint32_t table,
+    uint32_t *size) {
+    if (session == NULL || size == NULL) return FORESIGHT_SESSION_NULL;
+    return foresight_session_size(session, table, size);
+}
+
+static inline uint8_t foresight_guard_declared(struct foresight_session *session, uint64_t ticket,
+    struct foresight_operation *declared, size_t room, size_t *size) {
+    struct foresight_operation none[1] = { { FORESIGHT_GET, 0, { 0, 0, 0 }, { 0, 0, 0 } } };
+    if (session == NULL || size == NULL || foresight_guard_null(declared, room)) {
+        return FORESIGHT_SESSION_NULL;
+    }
+    return foresight_session_declared(session, ticket, declared == NULL ? none : declared, room,
+        size);
+}
+
 static inline uint8_t foresight_guard_close(struct foresight_session *session) {
     if (session == NULL) return FORESIGHT_SESSION_NULL;
     return foresight_session_close(session);

@@ -22,8 +22,8 @@ extern "C" {
 #endif
 
 /* The version of this header; `foresight_version` returns that of the archive. */
-#define FORESIGHT_VERSION "2.0"
-#define FORESIGHT_VERSION_NUMBER 20000
+#define FORESIGHT_VERSION "2.1"
+#define FORESIGHT_VERSION_NUMBER 20100
 
 /* 10,000 times the first number of the archive's version, plus 100 times the second. */
 uint32_t foresight_version(void);

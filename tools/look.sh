@@ -94,6 +94,10 @@ fn a_served() -> Served {
     Served { used: 0, written: 0, requests: 0, told: 0, older: 0 }
 }
 
+fn some_counts() -> Counts {
+    Counts { names: 0, most_names: 0, tables: 0, begun: 0, open: 0, oldest: 0 }
+}
+
 fn main(rt: HostRuntime) -> ExitCode {
 MAIN
   # The parameters of a function's head become values of their types.
@@ -101,7 +105,7 @@ MAIN
     tr '\n' ' ' < "$file" | { grep -oE 'extern "C" fn \w+\([^)]*\)' || true; } | sed -E "
       s/.* fn /let _ = crate::$(basename "$file" .rt)::/; s/\w+: //g; s/\$/;/; s/Global/rt.alloc()/
       s/\bu(8|32|64|size)\b/0/g; s/CValue/a_value()/g; s/COperation/an_operation()/
-      s/Answer/an_answer()/; s/Served/a_served()/; s/Handle/&::none()/"
+      s/Answer/an_answer()/; s/Served/a_served()/; s/Counts/some_counts()/; s/Handle/&::none()/"
   done
   echo 'ExitCode::from(0) }'
 }

@@ -32,12 +32,15 @@ var statuses = map[int]string{
 	15: "too many names",
 	16: "the text isn't UTF-8",
 	20: "a ticket is in the way",
+	22: "no such table",
 }
 
-// Refused says why a file isn't opened, or a line isn't served.
+// Refused says why a file isn't opened, or a line isn't served. Where a file is refused, Explanation
+// tells in plain words where and why, with advice; else it is empty.
 type Refused struct {
-	Status int
-	Why    string
+	Status      int
+	Why         string
+	Explanation string
 }
 
 func (r *Refused) Error() string { return fmt.Sprintf("foresight: %s", r.Why) }
@@ -65,7 +68,33 @@ func failed(status C.uint8_t, why []byte) error {
 	if text == "" {
 		text = fmt.Sprintf("status %d: %s", status, statuses[int(status)])
 	}
-	return &Refused{int(status), text}
+	return &Refused{Status: int(status), Why: text}
+}
+
+// Explain tells of a refusal what `foresight_where` does: of the line that was said of a text, which
+// goes by this name; as JSON, if that is asked for. It is empty if the line is no refusal's, or names
+// a place that the text doesn't have.
+func Explain(text []byte, refusal, name string, json bool) (string, error) {
+	form := C.uint8_t(C.FORESIGHT_FORM_TEXT)
+	if json {
+		form = C.FORESIGHT_FORM_JSON
+	}
+	line, file := []byte(refusal), []byte(name)
+	answer := C.struct_foresight_answer{needed: 4096}
+	for {
+		out := make([]byte, answer.needed)
+		status := C.foresight_explain(at(text), C.size_t(len(text)), at(file), C.size_t(len(file)),
+			at(line), C.size_t(len(line)), form, at(out), C.size_t(len(out)), &answer)
+		switch status {
+		case 0:
+			return string(out[:answer.written]), nil
+		case C.FORESIGHT_UNEXPLAINED:
+			return "", nil
+		case 5:
+		default:
+			return "", failed(status, nil)
+		}
+	}
 }
 
 // Open opens a session over a session file without requests, with a seed that nobody who sends
@@ -77,7 +106,11 @@ func Open(text []byte, seed uint64, mostNames uint32) (*Session, error) {
 	status := C.foresight_session_open(&s.handle, at(text), C.size_t(len(text)), C.uint64_t(seed),
 		C.uint32_t(mostNames), at(why), messageRoom, &answer)
 	if status != 0 {
-		return nil, failed(status, why[:answer.told])
+		err := failed(status, why[:answer.told])
+		if refused, is := err.(*Refused); is {
+			refused.Explanation, _ = Explain(text, refused.Why, "text", false)
+		}
+		return nil, err
 	}
 	runtime.SetFinalizer(s, (*Session).Close)
 	return s, nil
@@ -88,7 +121,7 @@ func Open(text []byte, seed uint64, mostNames uint32) (*Session, error) {
 func (s *Session) Serve(lines []string) ([]string, error) {
 	for _, line := range lines {
 		if strings.Contains(line, "\n") {
-			return nil, &Refused{1, "more than one line"}
+			return nil, &Refused{Status: 1, Why: "more than one line"}
 		}
 	}
 	text := []byte(strings.Join(append(append([]string{}, lines...), ""), "\n"))
@@ -140,6 +173,38 @@ func (s *Session) Tables() (string, error) {
 			return "", failed(status, why[:answer.told])
 		}
 	}
+}
+
+// Counts is what a session holds.
+type Counts struct {
+	// Names of handlers, tables, variables and symbols together, and how many there may be.
+	Names, MostNames uint32
+	Tables           int
+	// Tickets that have begun: each request that was served is one.
+	Begun uint64
+}
+
+// Counts returns what the session holds.
+func (s *Session) Counts() (Counts, error) {
+	var counts C.struct_foresight_counts
+	s.mu.Lock()
+	defer s.mu.Unlock()
+	if status := C.foresight_session_counts(&s.handle, &counts); status != 0 {
+		return Counts{}, failed(status, nil)
+	}
+	return Counts{uint32(counts.names), uint32(counts.most_names), int(counts.tables),
+		uint64(counts.begun)}, nil
+}
+
+// Size returns how many entries the table of this number has.
+func (s *Session) Size(table uint32) (uint32, error) {
+	var size C.uint32_t
+	s.mu.Lock()
+	defer s.mu.Unlock()
+	if status := C.foresight_session_size(&s.handle, C.uint32_t(table), &size); status != 0 {
+		return 0, failed(status, nil)
+	}
+	return uint32(size), nil
 }
 
 // Close gives the memory back. Later calls are refused.

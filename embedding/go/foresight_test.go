@@ -40,6 +40,12 @@ func TestRefuses(t *testing.T) {
 		refused.Why != "refused S2 at 4" {
 		t.Fatal(err)
 	}
+	if !strings.HasPrefix(refused.Explanation, "text:1:5: ") {
+		t.Fatal(refused.Explanation)
+	}
+	if told, err := Explain([]byte("map ;\n%%\n"), "unknown handler", "bank", true); err != nil || told != "" {
+		t.Fatal(told, err)
+	}
 	s, err := Open([]byte("map m; handler f(k) { let a = get(m, k); put(m, k, 1); reply a; }\n%%\n"), 7, 6)
 	if err != nil {
 		t.Fatal(err)
@@ -70,6 +76,16 @@ func TestRefuses(t *testing.T) {
 	group.Wait()
 	if tables, err := s.Tables(); err != nil || strings.Count(tables, "\n") != 8002 {
 		t.Fatal("other tables of eight goroutines", err)
+	}
+	counts, err := s.Counts()
+	if err != nil || counts.Names != 4 || counts.MostNames != 6 || counts.Tables != 1 || counts.Begun < 8000 {
+		t.Fatal(counts, err)
+	}
+	if size, err := s.Size(0); err != nil || size != 8001 {
+		t.Fatal(size, err)
+	}
+	if _, err := s.Size(1); !errors.As(err, &refused) || refused.Status != 22 {
+		t.Fatal(err)
 	}
 	s.Close()
 	if _, err := s.Request("f a"); !errors.As(err, &refused) || refused.Status != 11 ||

@@ -1,6 +1,7 @@
 #!/usr/bin/env python3
 """Tries foresight.py: package.py CASE, a folder of `handlers`, `requests`, `replies`, `tables`, as the
 program answers them; FORESIGHT_LIBRARY names the shared object."""
+import json
 import os
 import sys
 import threading
@@ -12,6 +13,8 @@ UNREAD = ("status 10: no such kind, sort or name, too many tables, or a field th
           "isn't nil")
 MISFIT = ("status 22: no such table, or it has no such operation, or a symbol that is no name of the "
           "session")
+PLACE = ("text:1:5: a token with which no file goes on\nmap ;\n    ^\n"
+         "= unexpected `;`: a name is wanted here\n")
 
 
 def read(name):
@@ -58,7 +61,16 @@ def try_session():
 def try_refusals():
     """What each call refuses."""
     text = "map m; handler f(k) { let a = get(m, k); put(m, k, 1); reply a; }\n%%\n"
-    refused(lambda: foresight.Session("map ;\n%%\n"), 1, "refused S2 at 4")
+    error = refused(lambda: foresight.Session("map ;\n%%\n"), 1, "refused S2 at 4")
+    assert error.explanation == PLACE, error.explanation
+    assert foresight.explain("map ;\n%%\n", "refused S2 at 4", name="bank") == \
+        PLACE.replace("text:", "bank:")
+    as_json = json.loads(foresight.explain("map ;\n%%\n", "refused S2 at 4\n", form="json"))
+    assert (as_json["line"], as_json["column"], as_json["rule"]) == (1, 5, "S2"), as_json
+    for line in ("unknown handler", "refused S2 at 400", ""):
+        assert foresight.explain("map ;\n%%\n", line) is None, line
+    error = refused(lambda: foresight.Session("map m;\n%%\nf 1\n"), 1, "refused Q1 line 3")
+    assert error.explanation.startswith("text:3:1: no such handler\n"), error.explanation
     refused(lambda: foresight.Session(text, most_names=2), 15, "too many names")
     session = foresight.Session(text, most_names=6)
     for line, why in (("g", "unknown handler"), ("f", "wrong number of arguments"),
@@ -166,8 +178,30 @@ def try_tickets_beside_requests():
         refused(lambda: session.name("5"), 1, "status 1: the text is no symbol")
 
 
+def try_counts():
+    """What a session holds, told."""
+    text = "map m; set s; handler f(k) { put(m, k, 1); mark(s, 1); reply k; }\n%%\n"
+    with foresight.Session(text, most_names=7) as session:
+        assert session.counts() == {"names": 4, "most_names": 7, "tables": 2, "begun": 0, "open": 0,
+                                    "oldest": None}, session.counts()
+        session.serve(["f a", "f 1"])
+        symbols = [("get", 0, session.name("a")), ("put", 0, any, 7), ("count", 1)]
+        ticket = session.begin(symbols)
+        assert session.declared(ticket) == symbols, session.declared(ticket)
+        session.begin([])
+        assert session.counts() == {"names": 5, "most_names": 7, "tables": 2, "begun": 4, "open": 2,
+                                    "oldest": ticket}, session.counts()
+        assert [session.size(table) for table in (0, 1)] == [2, 1]
+        refused(lambda: session.size(2), 22, MISFIT)
+        session.end(ticket)
+        refused(lambda: session.declared(ticket), 13,
+                "status 13: the ticket has not begun, or has ended")
+    refused(session.counts, 11, "status 11: the object is closed")
+
+
 try_session()
 try_refusals()
 try_tickets()
 try_tickets_beside_requests()
+try_counts()
 print("package: foresight.py, as it should be")

@@ -338,6 +338,79 @@ static void want_tickets(void) {
     want(heap_blocks() == 0, "memory is kept after close");
 }
 
+/* ---- what a session holds */
+
+/* Whether a session says that it holds this. */
+static bool holds(handle *session, uint32_t names, uint64_t begun, size_t open, uint64_t oldest) {
+    struct foresight_counts counts;
+    memset(&counts, 0xff, sizeof counts);
+    return foresight_session_counts(session, &counts) == 0 && counts.names == names
+        && counts.most_names == 10 && counts.tables == 2 && counts.begun == begun
+        && counts.open == open && counts.oldest == oldest;
+}
+
+static void want_counts(void) {
+    static const struct foresight_operation declared[3] = {
+        { FORESIGHT_GET, 0, { FORESIGHT_NUMBER, 0, 5 }, { FORESIGHT_NIL, 0, 0 } },
+        { FORESIGHT_PUT, 0, { FORESIGHT_NAME, 7, 0 }, { FORESIGHT_ANY, 0, 0 } },
+        { FORESIGHT_COUNT, 1, { FORESIGHT_NIL, 0, 0 }, { FORESIGHT_NIL, 0, 0 } },
+    };
+    struct foresight_operation told_of[4];
+    struct foresight_counts counts = { 1, 2, 3, 4, 5, 6 };
+    uint64_t first = 0, second = 0;
+    uint32_t entries = 99;
+    size_t size = 99;
+    handle session = none;
+    WANT(11, foresight_session_counts(&session, &counts));
+    WANT(11, foresight_session_size(&session, 0, &entries));
+    WANT(11, foresight_session_declared(&session, 0, told_of, 4, &size));
+    want(counts.names == 1 && counts.oldest == 6 && entries == 99 && size == 99,
+        "a handle of nothing tells something");
+    WANT(0, open_with(&session, handlers, 10));
+    want(holds(&session, NAMES, 0, 0, 0), "what a session holds as it opens");
+    WANT(0, serve(&session, "f b\nf 5\ng\n"));
+    want(holds(&session, NAMES + 1, 3, 0, 0), "what a session holds after three requests");
+    WANT(0, foresight_session_size(&session, 0, &entries));
+    want(entries == 3, "the entries of the map");
+    WANT(0, foresight_session_size(&session, 1, &entries));
+    want(entries == 3, "the members of the set");
+    WANT(22, foresight_session_size(&session, 2, &entries));
+    WANT(0, foresight_session_begin(&session, declared, 0, &first));
+    WANT(0, foresight_session_begin(&session, declared, 3, &second));
+    want(holds(&session, NAMES + 1, 5, 2, first), "two open tickets");
+    WANT(0, foresight_session_declared(&session, first, told_of, 4, &size));
+    want(size == 0, "a ticket that has declared nothing");
+    memset(told_of, 0, sizeof told_of);
+    WANT(0, foresight_session_declared(&session, second, told_of, 4, &size));
+    want(size == 3, "a ticket that has declared three symbols");
+    for (size_t i = 0; i < 3; i++) {
+        const struct foresight_operation *is = &told_of[i], *due = &declared[i];
+        want(is->kind == due->kind && is->table == due->table && is->key.sort == due->key.sort
+            && is->key.name == due->key.name && is->key.number == due->key.number
+            && is->value.sort == due->value.sort, "another symbol");
+    }
+    /* A room for one symbol takes one. */
+    memset(told_of, 0, sizeof told_of);
+    WANT(0, foresight_session_declared(&session, second, told_of, 1, &size));
+    want(size == 3 && told_of[0].key.number == 5 && told_of[1].kind == 0, "a room for one symbol");
+    WANT(0, foresight_session_end(&session, first));
+    want(holds(&session, NAMES + 1, 5, 1, second), "one open ticket");
+    WANT(13, foresight_session_declared(&session, first, told_of, 4, &size));
+    WANT(13, foresight_session_declared(&session, 99, told_of, 4, &size));
+    WANT(0, foresight_session_end(&session, second));
+    want(holds(&session, NAMES + 1, 5, 0, 0), "no open ticket");
+    WANT(23, foresight_guard_counts(&session, NULL));
+    WANT(23, foresight_guard_counts(NULL, &counts));
+    WANT(23, foresight_guard_size(&session, 0, NULL));
+    WANT(23, foresight_guard_declared(&session, 0, NULL, 1, &size));
+    WANT(23, foresight_guard_declared(&session, 0, told_of, 1, NULL));
+    WANT(13, foresight_guard_declared(&session, 0, NULL, 0, &size));
+    size_t before = heap_requests();
+    want(holds(&session, NAMES + 1, 5, 0, 0) && heap_requests() == before, "counting takes memory");
+    WANT(0, foresight_session_close(&session));
+    want(heap_blocks() == 0, "memory is kept after close");
+}
+
 int main(void) {
     want(foresight_version() == FORESIGHT_VERSION_NUMBER, "header and archive are of two versions");
     want_lines();
@@ -347,6 +420,7 @@ int main(void) {
     want_handles();
     want_null();
     want_tickets();
+    want_counts();
     want(!is_refused(0), "memory is wanting");
     size_t requests = 0;
     while (is_refused(requests + 1)) requests++;

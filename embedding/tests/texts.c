@@ -1,6 +1,7 @@
 /* Calls each of the six calls over texts: where it ends well, in a room that is too small, with an
  * input that breaks a rule, and with each of its requests for memory refused; `texts WORD` does the
- * last on standard input, for the call of this word. .ci/embedding builds and runs it. */
+ * last on standard input, for the call of this word. Then it has a refusal explained, in the same
+ * ways. .ci/embedding builds and runs it. */
 #include "../foresight.h"
 #include "heap.h"
 
@@ -96,6 +97,9 @@ static struct plain {
     struct foresight_answer answer;
 } plain;
 
+/* The line with which calls say that memory is wanting. */
+static const char *no_memory = "no memory\n";
+
 /* Whether the last call answered the same. */
 static bool is_plain(uint8_t status, size_t out_room) {
     return status == plain.status && memcmp(&answer, &plain.answer, sizeof answer) == 0
@@ -105,9 +109,10 @@ static bool is_plain(uint8_t status, size_t out_room) {
 
 /* Whether the last call said that memory is wanting, and wrote nothing else. */
 static bool is_no_memory(uint8_t status, size_t out_room) {
+    size_t length = strlen(no_memory);
     return status == FORESIGHT_NO_MEMORY && answer.needed == 0 && answer.written == 0
-        && answer.told == 10 && begins(out, out_room, "", 0)
-        && begins(message, FORESIGHT_MESSAGE_ROOM, "no memory\n", 10);
+        && answer.told == length && begins(out, out_room, "", 0)
+        && begins(message, FORESIGHT_MESSAGE_ROOM, no_memory, length);
 }
 
 /* Makes a call again and again, and refuses another request each time, until all are granted: how
@@ -150,6 +155,76 @@ static void test(const struct row *row) {
     wants(row, "the whole text again", row->text, ROOM, 256, FORESIGHT_FINE, whole, "");
 }
 
+/* ---- explained refusals */
+
+/* The refusal that is explained, and in which form. It has no message. */
+static const char *refusal;
+static uint8_t form;
+static const char *name = "small";
+
+static uint8_t explain(const uint8_t *text, size_t size, uint8_t *room, size_t room_size,
+    uint8_t *line, size_t line_size, struct foresight_answer *told) {
+    (void)line;
+    (void)line_size;
+    return foresight_explain(text, size, (const uint8_t *)name, strlen(name),
+        (const uint8_t *)refusal, strlen(refusal), form, room, room_size, told);
+}
+
+#define SMALL "handler one() { reply 1; }\nhandler two() { reply 2 }\n"
+#define WANTED "`*`, `+`, `-`, `,` or `;` is wanted here"
+
+/* What is told of a refusal of a text, in both forms. */
+static const struct told {
+    const char *text, *refusal, *wanted, *json;
+} explained[] = {
+    { SMALL, "refused S2 at 51\n",
+        "small:2:25: a token with which no file goes on\nhandler two() { reply 2 }\n"
+        "                        ^\n= unexpected `}`: " WANTED "\n= a statement ends with `;`\n",
+        "{\"advice\":[\"unexpected `}`: " WANTED "\",\"a statement ends with `;`\"],"
+        "\"column\":25,\"file\":\"small\",\"line\":2,\"rule\":\"S2\","
+        "\"sentence\":\"a token with which no file goes on\"}\n" },
+};
+
+static void test_explained(const struct told *told) {
+    struct row row = { "explain", explain, told->text, told->wanted, "", "" };
+    no_memory = "";
+    refusal = told->refusal;
+    for (form = FORESIGHT_FORM_TEXT; form <= FORESIGHT_FORM_JSON; form++) {
+        const char *whole = form == FORESIGHT_FORM_TEXT ? told->wanted : told->json;
+        size_t length = strlen(whole);
+        wants(&row, "the whole text", row.text, ROOM, 256, FORESIGHT_FINE, whole, "");
+        wants(&row, "a room of its size", row.text, length, 256, FORESIGHT_FINE, whole, "");
+        wants(&row, "a byte too few", row.text, length - 1, 256, FORESIGHT_WRITE_FAULT, whole, "");
+        wants(&row, "no room", row.text, 0, 256, FORESIGHT_WRITE_FAULT, whole, "");
+        want(refused(&row, row.text, strlen(row.text), ROOM, true) > 0, row.word, "no memory taken");
+        refused(&row, row.text, strlen(row.text), ROOM, false);
+    }
+    /* There is no such form; then what is no refusal, and what isn't in the text. */
+    wants(&row, "another form", row.text, ROOM, 256, FORESIGHT_UNREAD, "", "");
+    form = FORESIGHT_FORM_TEXT;
+    name = "\xff";
+    wants(&row, "a name that is no text", row.text, ROOM, 256, FORESIGHT_NOT_TEXT, "", "");
+    name = "small";
+    static const char *const lines[] = {
+        "", "\n", "unknown handler\n", "refused S2 at 52000\n", "refused\n", "refused S2 at 51\n\n",
+        "no memory\n", "\xff",
+    };
+    for (size_t i = 0; i < sizeof lines / sizeof lines[0]; i++) {
+        refusal = lines[i];
+        wants(&row, "a line that is no refusal of the text", row.text, ROOM, 256,
+            FORESIGHT_UNEXPLAINED, "", "");
+    }
+}
+
+/* The message of a call is explained as it stands. */
+static void test_message(void) {
+    char line[FORESIGHT_MESSAGE_ROOM + 1] = "";
+    want(foresight_check((const uint8_t *)SMALL, strlen(SMALL), out, ROOM, message,
+        FORESIGHT_MESSAGE_ROOM, &answer) == FORESIGHT_REFUSED, "explain", "nothing is refused");
+    memcpy(line, message, answer.told);
+    want(strcmp(line, explained[0].refusal) == 0, "explain", "another refusal");
+}
+
 /* The same call with each request refused, on standard input. */
 static size_t test_input(const struct row *row) {
     static char text[INPUT];
@@ -166,6 +241,10 @@ int main(int count, char **words) {
         if (count == 2 && strcmp(rows[i].word, words[1]) == 0) {
             printf("%zu\n", test_input(&rows[i]));
         }
+    }
+    if (count == 1) {
+        test_message();
+        test_explained(&explained[0]);
     }
     return failures > 0;
 }

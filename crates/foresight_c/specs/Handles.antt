@@ -24,6 +24,11 @@ OnCalled None e was out older_was older n P =
     OnDesk None e n P × (out ≡ was) × (older ≡ older_was)
 OnCalled (Some d) e was out older_was older n P = OnDesk (Some d) e n P
 
+-- the same of a call that leaves the desk as it is; over a handle without one this stays unwritten
+abbrev pub OnStill : Option Desk → Option Desk → ℕ → Type 0 → (Desk → Type 0) → Type 0
+OnStill None e n Unwritten P = (e ≡ None) × (n ≡ wrong) × Unwritten
+OnStill (Some d) e n Unwritten P = (e ≡ Some d) × P d
+
 -- a handle without a desk has one of empty tables, or none where numbers or memory don't suffice; a
 -- handle with a desk keeps it
 abbrev pub TablesOn : Option Desk → Option Desk → ℕ → ℕ → ℕ → Type 0

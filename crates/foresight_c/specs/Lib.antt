@@ -1,6 +1,8 @@
 pub mod Answered
 pub mod Calls
+pub mod Counts
 pub mod Endings
+pub mod Explaining
 pub mod Fronts
 pub mod Handles
 pub mod Held

@@ -41,6 +41,10 @@ too_many_names = 15
 abbrev pub not_text : ℕ
 not_text = 16
 
+-- nothing is told of a refusal
+abbrev pub unexplained : ℕ
+unexplained = 17
+
 -- an open ticket is in the way
 abbrev pub delayed : ℕ
 delayed = 20

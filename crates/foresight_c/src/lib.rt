@@ -6,14 +6,19 @@
 
 mod answer;
 mod calling;
+mod counts;
 mod desk;
 mod driving;
+mod explain_exports;
+mod explaining;
 mod exports;
 mod fronts;
 mod handing;
 mod handle;
 mod reading;
 mod served;
+mod session_count_exports;
+mod session_counts;
 mod session_desk;
 mod session_exports;
 mod session_messages;
@@ -28,4 +33,5 @@ mod values;
 mod version;
 
 pub use answer::Answer;
+pub use counts::Counts;
 pub use served::Served;
