@@ -1,2 +1,2 @@
-mod Cut
-mod Untold
+pub mod Showing
+pub mod Telling
