@@ -1,31 +1,34 @@
 // The line that tells how a run ended.
 
+ghost use Rattle.std.specs.Prelude.{◌≡◌};
 ghost use Rattle.byte_ends.specs.Changes.{change};
-ghost use Rattle.foresight_waits.specs.Endings.{EndsWithLine, Writes};
+ghost use Rattle.foresight_waits.specs.Endings as spec;
 
-use byte_ends::{Sink, write_all};
+use byte_ends::{ShortText, Sink, short_text, write_all};
 use serve_faults::{Status, message_of};
 
-/// The line of words that are no command line.
-const USAGE: &[u8] = b"usage: foresight_waits [--trace] [--json] [FILE] | --version\n";
-
-/// Writes the line that tells how a run ended, as far as `err` takes it; none if all is written.
-pub(crate) fn tell<E: Sink>(status: &Status, err: &mut E)
-    ensures { EndsWithLine (change E.held E.faults err.old err.new) status.now }
+/// The line that tells how a run ended; none if all is written.
+fn line_of(status: &Status) -> ShortText
+    ensures { result.bytes ≡ spec.line_of status.now }
 {
     match status {
         Status::Usage => {
-            let _told = write_all(err, USAGE);
+            short_text("usage: foresight_waits [--trace] [--json] [FILE] | --version\n")
         }
-        _ => {
-            let _told = write_all(err, message_of(status).as_str().as_bytes());
-        }
+        _ => message_of(status),
     }
+}
+
+/// Writes that line, as far as `err` takes it.
+pub(crate) fn tell<E: Sink>(status: &Status, err: &mut E)
+    ensures { spec.EndsWithLine (change E.held E.faults err.old err.new) status.now }
+{
+    let _told = write_all(err, line_of(status).as_str().as_bytes());
 }
 
 /// Writes all bytes, and tells how that ended.
 pub(crate) fn written<O: Sink>(out: &mut O, bytes: &[u8]) -> Status
-    ensures { Writes bytes.now (change O.held O.faults out.old out.new) result }
+    ensures { spec.Writes bytes.now (change O.held O.faults out.old out.new) result }
 {
     if write_all(out, bytes) {
         Status::Fine
