@@ -1,6 +1,6 @@
 -- What is told of a source.
-use Rattle.std.proofs.Common.{◌≡◌, ◌≢◌, ◌<◌, ℕ, List, length, Option, Some, None, IfSome, inl, refl, sym, ap, ◌∙◌, subst}
-use Rattle.byte_ends.specs.Ends.{IsRaised}
+use Rattle.std.proofs.Common.{◌≡◌, ◌≢◌, ◌<◌, ℕ, true, List, length, Option, Some, None, IfSome, inl, refl, sym, ap, ◌∙◌, subst}
+use Rattle.byte_ends.specs.Ends.{IsAtEnd, IsRaised}
 use Rattle.byte_ends.specs.Changes.{Change, Failed, change}
 use Rattle.serve_faults.specs.Ways.{HasRead, StoppedAs, StopsAs}
 use Rattle.serve_faults.specs.declared.status.Fault.{Fault}
@@ -10,6 +10,7 @@ use Rattle.serve_faults.specs.declared.status.Status.TheVariants.{NoMemory, Read
 use Rattle.serve_faults.specs.declared.status.Status.TheVariants as status
 use Rattle.waiting_pairs.specs.declared.form.Form.{Form}
 use Rattle.foresight_waits.specs.declared.command.Subject.{Subject}
+use Rattle.foresight_waits.specs.Endings.{has_read_all}
 use Rattle.foresight_waits.specs.Runs.{Answered, Shows, Tells, Written, most}
 
 -- what holds of these bytes holds of those that are told
@@ -93,3 +94,27 @@ module _ {S O : Type 0} (subject : Subject) (form : Form) where
 
     pub tells_stopped : (s : Status) → StoppedAs (most subject) source s → Tells subject form (source.bytes source.old) source unshown s
     tells_stopped s h = stopped s h.1
+
+    -- it couldn't be opened
+    pub tells_unopened : Failed source → (given : Option (List ℕ)) → Tells subject form given source unshown ReadFault
+    tells_unopened = failed
+
+    pub tells_unopened_wanting : source.faults source.new ≡ source.faults source.old → (given : Option (List ℕ)) → Tells subject form given source unshown NoMemory
+    tells_unopened_wanting = no_memory
+
+-- what the opened file has, where that is told
+opened : (file left : Option (List ℕ)) (P : Option (List ℕ) → Type 0) → IfSome file (λ all. left ≡ Some all) → P None → P left → P file
+opened None left P is none some = none
+opened (Some all) left P is none some = subst P is some
+
+module _ {S O : Type 0} (subject : Subject) (form : Form) (bytes : S → Option (List ℕ)) (faults : S → ℕ) (old mid new : S) (out : Change O) (s : Status) where
+  -- a file is told of once it is open
+  pub tells_opened : (file : Option (List ℕ)) → faults mid ≡ faults old → IfSome file (λ all. bytes mid ≡ Some all) → Tells subject form (bytes mid) (change bytes faults mid new) out s → Tells subject form file (change bytes faults old new) out s
+  tells_opened file same is h = record {
+    usage = h.usage;
+    read_fault = λ x. subst (λ (n : ℕ). IsRaised n (faults new)) same (h.read_fault x);
+    read_well = λ x. h.read_well x ∙ same;
+    written = h.written;
+    end = opened file (bytes mid) (λ (o : Option (List ℕ)). has_read_all s ≡ true → IsAtEnd o (bytes new)) is (λ _. tt) h.end;
+    answered = opened file (bytes mid) (λ (o : Option (List ℕ)). IfSome o (λ input. Answered subject form input out s)) is tt h.answered;
+  }

@@ -40,6 +40,7 @@ fn text_of(
 }
 
 /// Tells of an input in this form.
+#[tactic(auto, using(crate::proofs::Showing::shows_refusal, crate::proofs::Showing::shows_nothing))]
 pub(crate) fn show<O: Sink>(
     alloc: Global,
     subject: Subject,

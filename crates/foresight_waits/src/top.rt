@@ -22,6 +22,7 @@ use waiting_pairs::Form;
 /// Runs the words of a command line as `run` does, and gives the number with which the program
 /// ends: that of the run's status. Where a word is no text, that is no command line; where there was
 /// no memory for the words, it tells so.
+#[tactic(auto, using(crate::proofs::Ending::ends_as_run, crate::proofs::Ending::ends_without_run))]
 pub(crate) fn exit_number<I: Source, F: OpensFiles, O: Sink, E: Sink>(
     alloc: Global,
     words: Result<Option<Vec<String>>, AllocError>,
@@ -62,18 +63,18 @@ fn without_run<E: Sink>(status: Status, err: &mut E) -> u8
 /// stand by name in `specs/Runs.antt`.
 fn run<I: Source, F: OpensFiles, O: Sink, E: Sink>(
     alloc: Global,
-    words: &[String],
+    words: &Vec<String>,
     source: &mut I,
     files: &mut F,
     out: &mut O,
     err: &mut E,
 ) -> Status
-    ensures runs { Runs (map string_bytes words.now) (change I.left I.faults source.old source.new)
+    ensures runs { Runs (map string_bytes words.now.items) (change I.left I.faults source.old source.new)
         (change F.left F.faults files.old files.new) (F.bytes_of files.old)
         (change O.held O.faults out.old out.new) result }
     ensures line { EndsWithLine (change E.held E.faults err.old err.new) result }
 {
-    let status = answer(alloc, command_of(words), source, files, out);
+    let status = answer(alloc, command_of(words.as_slice()), source, files, out);
     tell(&status, err);
     status
 }
