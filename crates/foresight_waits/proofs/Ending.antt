@@ -4,7 +4,9 @@ use Rattle.byte_ends.specs.Ends.{Appended, AppendedPrefix, Counted}
 use Rattle.byte_ends.specs.Changes.{Change, Failed, IsUntouched, WroteAll, WrotePrefix}
 use Rattle.serve_faults.specs.ExitStatus.{exit_status}
 use Rattle.serve_faults.specs.declared.status.Status.{Status}
-use Rattle.foresight_waits.specs.Endings.{EndsWithLine}
+use Rattle.serve_faults.specs.Message.{message_of}
+use Rattle.serve_faults.specs.declared.status.Status.TheVariants as status
+use Rattle.foresight_waits.specs.Endings.{EndsWithLine, line_of}
 use Rattle.foresight_waits.specs.Runs.{EndsAsRun, EndsWithoutRun, Runs}
 
 -- all of a text was taken, or a front of it
@@ -19,3 +21,12 @@ module _ {I F O E : Type 0} (source : Change I) (files : Change F) (out : Change
 
   pub ends_without_run : (s : Status) (number : ℕ) → IsUntouched source → IsUntouched files → IsUntouched out → EndsWithLine err s → number ≡ exit_status s → EndsWithoutRun source files out err s number
   ends_without_run s number unread unopened unwritten line is = record { unread = (unread, unopened); unwritten = unwritten; line = line; number_is = is }
+
+-- but for usage the line is the same as that of `foresight`
+pub other_line : (s : Status) → (s ≡ status.Usage → ⊥) → message_of s ≡ line_of s
+other_line status.Fine n = refl
+other_line (status.Refused f) n = refl
+other_line status.Usage n = absurd (n refl)
+other_line status.NoMemory n = refl
+other_line status.ReadFault n = refl
+other_line status.WriteFault n = refl
