@@ -1,3 +1,3 @@
-pub mod Ending
-pub mod Showing
-pub mod Telling
+pub mod EndLemmas
+pub mod ShowLemmas
+pub mod TellLemmas

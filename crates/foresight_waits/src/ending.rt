@@ -8,7 +8,7 @@ use byte_ends::{ShortText, Sink, short_text, write_all};
 use serve_faults::{Status, message_of};
 
 /// The line that tells how a run ended; none if all is written.
-#[tactic(auto, using(crate::proofs::Ending::other_line))]
+#[tactic(auto, using(crate::proofs::EndLemmas::other_line))]
 fn line_of(status: &Status) -> ShortText
     ensures { result.bytes ≡ spec.line_of status.now }
 {

@@ -40,7 +40,7 @@ fn text_of(
 }
 
 /// Tells of an input in this form.
-#[tactic(auto, using(crate::proofs::Showing::shows_refusal, crate::proofs::Showing::shows_nothing))]
+#[tactic(auto, using(crate::proofs::ShowLemmas::shows_refusal, crate::proofs::ShowLemmas::shows_nothing))]
 pub(crate) fn show<O: Sink>(
     alloc: Global,
     subject: Subject,

@@ -22,7 +22,7 @@ use waiting_pairs::Form;
 /// Runs the words of a command line as `run` does, and gives the number with which the program
 /// ends: that of the run's status. Where a word is no text, that is no command line; where there was
 /// no memory for the words, it tells so.
-#[tactic(auto, using(crate::proofs::Ending::ends_as_run, crate::proofs::Ending::ends_without_run))]
+#[tactic(auto, using(crate::proofs::EndLemmas::ends_as_run, crate::proofs::EndLemmas::ends_without_run))]
 pub(crate) fn exit_number<I: Source, F: OpensFiles, O: Sink, E: Sink>(
     alloc: Global,
     words: Result<Option<Vec<String>>, AllocError>,

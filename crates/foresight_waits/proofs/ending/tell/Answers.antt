@@ -1,7 +1,7 @@
 use Rattle.std.proofs.Common.{◌∙◌, ap}
 use Rattle.byte_ends.specs.Changes.{change}
 use Rattle.foresight_waits.specs.Endings.{line_of}
-use Rattle.foresight_waits.proofs.Ending.{told_line}
+use Rattle.foresight_waits.proofs.EndLemmas.{told_line}
 use Rattle.foresight_waits.proofs.ending.tell.Goals as goal
 
 pub returns : goal.returns

@@ -2,7 +2,7 @@ use Rattle.std.proofs.Common.{List, ℕ, subst}
 use Rattle.byte_ends.specs.Changes.{change}
 use Rattle.serve_faults.specs.Ways.{HasRead, StoppedAs}
 use Rattle.foresight_waits.specs.Runs.{Shows}
-use Rattle.foresight_waits.proofs.Telling.{tells_shown, tells_stopped}
+use Rattle.foresight_waits.proofs.TellLemmas.{tells_shown, tells_stopped}
 use Rattle.foresight_waits.proofs.top.tell_of.Goals as goal
 
 pub returns-in-Ok : goal.returns-in-Ok

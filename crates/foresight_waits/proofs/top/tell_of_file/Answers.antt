@@ -1,5 +1,5 @@
 use Rattle.byte_ends.specs.Changes.{change}
-use Rattle.foresight_waits.proofs.Telling.{tells_opened, tells_unopened, tells_unopened_wanting}
+use Rattle.foresight_waits.proofs.TellLemmas.{tells_opened, tells_unopened, tells_unopened_wanting}
 use Rattle.foresight_waits.proofs.top.tell_of_file.Goals as goal
 
 pub returns-in-Open : goal.returns-in-Open
