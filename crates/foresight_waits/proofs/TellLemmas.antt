@@ -40,7 +40,7 @@ module _ {S O : Type 0} (subject : Subject) (form : Form) where
 
   -- nothing is shown
   module _ (source : Change S) (bytes : O → Option (List ℕ)) (faults : O → ℕ) (o : O) where
-    unshown : Change O
+    abbrev pub unshown : Change O
     unshown = change bytes faults o o
 
     untouched : (s : Status) → s ≢ WriteFault → Written unshown s

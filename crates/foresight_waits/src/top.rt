@@ -87,7 +87,7 @@ fn answer<I: Source, F: OpensFiles, O: Sink>(
     files: &mut F,
     out: &mut O,
 ) -> Status
-    ensures { RunsAsked (asked_option command) (change I.left I.faults source.old source.new)
+    ensures { RunsAsked (asked_option command.entry) (change I.left I.faults source.old source.new)
         (change F.left F.faults files.old files.new) (F.bytes_of files.old)
         (change O.held O.faults out.old out.new) result }
 {
