@@ -1,2 +1,3 @@
-mod Cut
-mod Untold
+pub mod EndLemmas
+pub mod ShowLemmas
+pub mod TellLemmas

@@ -4,51 +4,48 @@ use Rattle.std.specs.Str.{bytes_eq}
 use denote.Ref.{Bor}
 use Rattle.waiting_pairs.specs.declared.form.Form.{Form}
 use Rattle.waiting_pairs.specs.declared.form.Form.TheVariants.{Lines, Json}
+use Rattle.foresight_waits.specs.declared.command.Subject.{Subject}
+use Rattle.foresight_waits.specs.declared.command.Subject.TheVariants.{Waits, Delays}
 use Rattle.foresight_waits.specs.declared.command.Command.{Command}
-use Rattle.foresight_waits.specs.declared.command.Command.TheVariants.{Tell, Count, Version}
+use Rattle.foresight_waits.specs.declared.command.Command.TheVariants.{Tell, Version}
 
--- what is asked for: who may wait for whom, or who waited for whom in a trace, in this form, in the
--- file with this name, or without one in the input; or the program's version
+-- what is asked for: to tell of this in this form, of the file with this name, or without one of
+-- the input; or to tell the program's version
 pub data Asked : Type 0 where
-  waits : Form → Option (List ℕ) → Asked
-  delays : Form → Option (List ℕ) → Asked
+  tell : Subject → Form → Option (List ℕ) → Asked
   version : Asked
 
 -- the command of one word
 abbrev pub alone : List ℕ → Asked
 alone word =
-    if bytes_eq word (codes "--json") then waits Json None
-    else (if bytes_eq word (codes "--trace") then delays Lines None
-    else (if bytes_eq word (codes "--version") then version else waits Lines (Some word)))
+    if bytes_eq word (codes "--json") then tell Waits Json None
+    else (if bytes_eq word (codes "--trace") then tell Delays Lines None
+    else (if bytes_eq word (codes "--version") then version else tell Waits Lines (Some word)))
 
 -- the command of a word behind `--trace`
 abbrev pub behind_trace : List ℕ → Asked
 behind_trace word =
-    if bytes_eq word (codes "--json") then delays Json None else delays Lines (Some word)
+    if bytes_eq word (codes "--json") then tell Delays Json None else tell Delays Lines (Some word)
 
 -- the command of two words: behind `--json` comes a file's name
 abbrev pub followed : List ℕ → List ℕ → Option Asked
 followed word next =
-    if bytes_eq word (codes "--json") then Some (waits Json (Some next))
+    if bytes_eq word (codes "--json") then Some (tell Waits Json (Some next))
     else (if bytes_eq word (codes "--trace") then Some (behind_trace next) else None)
 
 -- the command of two words and a file's name
 abbrev pub behind_both : List ℕ → List ℕ → List ℕ → Option Asked
 behind_both word next name =
     if bytes_eq word (codes "--trace") && bytes_eq next (codes "--json")
-    then Some (delays Json (Some name)) else None
+    then Some (tell Delays Json (Some name)) else None
 
 -- the command that the words ask for, if they are a command line
 abbrev pub command_of : List (List ℕ) → Option Asked
-command_of [] = Some (waits Lines None)
+command_of [] = Some (tell Waits Lines None)
 command_of (word ∷ []) = Some (alone word)
 command_of (word ∷ name ∷ []) = followed word name
 command_of (word ∷ next ∷ name ∷ []) = behind_both word next name
 command_of (word ∷ next ∷ name ∷ more ∷ words) = None
-
--- the line that tells the version
-abbrev pub version_line : List ℕ
-version_line = codes "foresight_waits 2.0\n"
 
 -- ---- what the code finds
 
@@ -57,13 +54,11 @@ abbrev pub text_option : Option (Bor (List ℕ)) → Option (List ℕ)
 text_option None = None
 text_option (Some t) = Some t.now
 
--- what a command of the code asks for
+-- what a command of the code asks for, if there is one
 abbrev pub asked : Command → Asked
-asked (Tell form name) = waits form (text_option name)
-asked (Count form name) = delays form (text_option name)
+asked (Tell subject form name) = tell subject form (text_option name)
 asked Version = version
 
--- the same, if there is one
 abbrev pub asked_option : Option Command → Option Asked
 asked_option None = None
 asked_option (Some command) = Some (asked command)

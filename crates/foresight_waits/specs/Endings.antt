@@ -1,57 +1,47 @@
--- How a run ends, and what it writes before.
-use Rattle.std.specs.Prelude.{◌≡◌, ◌⊎◌, ◌<◌, ℕ, ⊤, List, Option, length, codes}
-use Rattle.std.specs.Io.KnownBytes.{Appends}
-use Rattle.waiting_pairs.specs.Message.{fault_line}
-use Rattle.waiting_pairs.specs.Limits.{max_input}
-use Rattle.waiting_pairs.specs.Told.{IsTold, IsUntold}
-use Rattle.waiting_pairs.specs.declared.form.Form.{Form}
-use Rattle.waiting_pairs.specs.LoadError.{LoadError}
-use Rattle.waiting_pairs.specs.LoadError.TheVariants as load_error
-use Rattle.waiting_pairs.specs.TraceTold.{IsTraceTold}
-use Rattle.waiting_pairs.specs.Command.TheVariants.{Audit}
-use Rattle.waiting_pairs.specs.Reasons.{IsReason}
-use Rattle.foresight_waits.specs.declared.ending.Ending.{Ending}
-use Rattle.foresight_waits.specs.declared.ending.Ending.TheVariants.{Reported, Refused, Usage, NoMemory, ReadFault, WriteFault}
+-- How a run ends: with which line and with which number.
+use Rattle.std.specs.Prelude.{◌≡◌, ◌⊎◌, ℕ, Bool, true, false, List, codes}
+use Rattle.byte_ends.specs.Changes.{Change, Failed, IsUntouched, WroteAll, WrotePrefix}
+use Rattle.serve_faults.specs.Message.{fault_line, message_of}
+use Rattle.serve_faults.specs.declared.status.Fault.TheVariants.{TooLarge}
+use Rattle.serve_faults.specs.declared.status.Status.{Status}
+use Rattle.serve_faults.specs.declared.status.Status.TheVariants.{Fine, Refused, Usage, NoMemory, ReadFault, WriteFault}
 
--- the number with which the program ends
-abbrev pub exit_status : Ending → ℕ
-exit_status Reported = 0
-exit_status (Refused fault) = 1
-exit_status Usage = 2
-exit_status NoMemory = 3
-exit_status ReadFault = 4
-exit_status WriteFault = 5
+-- the line that tells the version
+abbrev pub version_line : List ℕ
+version_line = codes "foresight_waits 2.0\n"
 
--- how a run ends that has nothing to tell
-abbrev pub untold : LoadError → Ending
-untold (load_error.Refused fault) = Refused fault
-untold load_error.NoMemory = NoMemory
+-- the line on the error output; none where all is written
+abbrev pub line_of : Status → List ℕ
+line_of Usage = codes "usage: foresight_waits [--trace] [--json] [FILE] | --version\n"
+line_of s = message_of s
 
--- What was written for a file: with status 0 who waits for whom, in this form; with status 1
--- nothing, and the file is too large or breaks the rule; nothing where memory ran out. Faults of
--- reading and other words end before that.
-abbrev pub IsShown : Form → List ℕ → Option (List ℕ) → Option (List ℕ) → Ending → Type 0
-IsShown form input old new Reported = (text : List ℕ) × IsTold form input text × Appends old new text
-IsShown form input old new (Refused fault) = (new ≡ old)
-    × (((max_input < length input) × (fault_line fault ≡ codes "refused T1\n"))
-    ⊎ IsUntold input (load_error.Refused fault))
-IsShown form input old new Usage = ⊥
-IsShown form input old new NoMemory = new ≡ old
-IsShown form input old new ReadFault = ⊥
-IsShown form input old new WriteFault = ⊤
+-- whether a run that reads, and that ended so, has read all
+abbrev pub has_read_all : Status → Bool
+has_read_all Fine = true
+has_read_all (Refused TooLarge) = false
+has_read_all (Refused fault) = true
+has_read_all Usage = false
+has_read_all NoMemory = false
+has_read_all ReadFault = false
+has_read_all WriteFault = true
 
--- What was written for a trace: with status 0 who waited for whom, in this form; with status 1
--- nothing, and the file breaks the rule that `foresight audit` names; nothing where memory ran out.
-abbrev pub IsCounted : Form → List ℕ → Option (List ℕ) → Option (List ℕ) → Ending → Type 0
-IsCounted form input old new Reported =
-    (text : List ℕ) × IsTraceTold form input text × Appends old new text
-IsCounted form input old new (Refused fault) =
-    (new ≡ old) × IsReason Audit input (load_error.Refused fault)
-IsCounted form input old new Usage = ⊥
-IsCounted form input old new NoMemory = new ≡ old
-IsCounted form input old new ReadFault = ⊥
-IsCounted form input old new WriteFault = ⊤
+-- whether a run that ended so came to its output
+abbrev pub has_begun_writing : Status → Bool
+has_begun_writing Fine = true
+has_begun_writing (Refused fault) = false
+has_begun_writing Usage = false
+has_begun_writing NoMemory = false
+has_begun_writing ReadFault = false
+has_begun_writing WriteFault = true
 
--- these bytes were written, or writing failed
-abbrev pub IsWritten : List ℕ → Option (List ℕ) → Option (List ℕ) → Ending → Type 0
-IsWritten bytes old new ending = ((ending ≡ Reported) × Appends old new bytes) ⊎ (ending ≡ WriteFault)
+-- the text was written, or a write failed and a front of it stands there
+abbrev pub Writes : {O : Type 0} → List ℕ → Change O → Status → Type 0
+Writes text out s = ((s ≡ Fine) × WroteAll out text)
+    ⊎ ((s ≡ WriteFault) × Failed out × WrotePrefix out text)
+
+-- The line on the error output is that of the status and no write of it failed; or a write failed,
+-- none was tried after it, and a front of the line stands there.
+pub record EndsWithLine {E : Type 0} (err : Change E) (s : Status) : Type 0 where
+  pub line : WroteAll err (line_of s) ⊎ Failed err × WrotePrefix err (line_of s)
+  -- A run that has written all writes none.
+  pub quiet : s ≡ Fine → IsUntouched err

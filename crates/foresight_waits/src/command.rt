@@ -5,15 +5,20 @@ ghost use Rattle.foresight_waits.specs.Commands as spec;
 
 use waiting_pairs::Form;
 
+/// What is told of.
+#[derive(Clone, Copy, Debug, PartialEq, Eq)]
+pub(crate) enum Subject {
+    /// Who may wait for whom in handlers.
+    Waits,
+    /// Who waited for whom in a trace.
+    Delays,
+}
+
 /// What the program is asked to do.
 #[derive(Clone, Copy, Debug)]
 pub(crate) enum Command<'a> {
-    /// Tell in this form who may wait for whom in the file with this name; without one, in the
-    /// input.
-    Tell(Form, Option<&'a str>),
-    /// Tell in this form who waited for whom in the trace of the file with this name; without one,
-    /// of the input.
-    Count(Form, Option<&'a str>),
+    /// Tell of this in this form, of the file with this name; without one, of the input.
+    Tell(Subject, Form, Option<&'a str>),
     /// Tell the program's version.
     Version,
 }
@@ -23,7 +28,7 @@ pub(crate) fn command_of(words: &[String]) -> Option<Command<'_>>
     ensures { spec.asked_option result ≡ spec.command_of (map string_bytes words.now) }
 {
     match words {
-        [] => Some(Command::Tell(Form::Lines, None)),
+        [] => Some(Command::Tell(Subject::Waits, Form::Lines, None)),
         [word] => Some(alone(word.as_str())),
         [word, name] => followed(word.as_str(), name.as_str()),
         [word, next, name] => behind_both(word.as_str(), next.as_str(), name.as_str()),
@@ -36,13 +41,13 @@ fn alone(word: &str) -> Command<'_>
     ensures { spec.asked result ≡ spec.alone word.now }
 {
     if word == "--json" {
-        Command::Tell(Form::Json, None)
+        Command::Tell(Subject::Waits, Form::Json, None)
     } else if word == "--trace" {
-        Command::Count(Form::Lines, None)
+        Command::Tell(Subject::Delays, Form::Lines, None)
     } else if word == "--version" {
         Command::Version
     } else {
-        Command::Tell(Form::Lines, Some(word))
+        Command::Tell(Subject::Waits, Form::Lines, Some(word))
     }
 }
 
@@ -51,7 +56,7 @@ fn followed<'a>(word: &str, next: &'a str) -> Option<Command<'a>>
     ensures { spec.asked_option result ≡ spec.followed word.now next.now }
 {
     if word == "--json" {
-        Some(Command::Tell(Form::Json, Some(next)))
+        Some(Command::Tell(Subject::Waits, Form::Json, Some(next)))
     } else if word == "--trace" {
         Some(behind_trace(next))
     } else {
@@ -64,9 +69,9 @@ fn behind_trace(word: &str) -> Command<'_>
     ensures { spec.asked result ≡ spec.behind_trace word.now }
 {
     if word == "--json" {
-        Command::Count(Form::Json, None)
+        Command::Tell(Subject::Delays, Form::Json, None)
     } else {
-        Command::Count(Form::Lines, Some(word))
+        Command::Tell(Subject::Delays, Form::Lines, Some(word))
     }
 }
 
@@ -75,7 +80,7 @@ fn behind_both<'a>(word: &str, next: &str, name: &'a str) -> Option<Command<'a>>
     ensures { spec.asked_option result ≡ spec.behind_both word.now next.now name.now }
 {
     if word == "--trace" && next == "--json" {
-        Some(Command::Count(Form::Json, Some(name)))
+        Some(Command::Tell(Subject::Delays, Form::Json, Some(name)))
     } else {
         None
     }

@@ -1,50 +1,39 @@
-// How a run of the program ends.
+// The line that tells how a run ended.
 
 ghost use Rattle.std.specs.Prelude.{◌≡◌};
-ghost use Rattle.foresight_waits.specs.Endings.{exit_status};
+ghost use Rattle.byte_ends.specs.Changes.{change};
+ghost use Rattle.foresight_waits.specs.Endings as spec;
 
-use waiting_pairs::{Fault, LoadError};
+use byte_ends::{ShortText, Sink, short_text, write_all};
+use serve_faults::{Status, message_of};
 
-/// How a run of the program ends.
-#[derive(Debug, Drop)]
-pub(crate) enum Ending {
-    /// What was asked for is written.
-    Reported,
-    /// The handlers break this rule.
-    Refused(Fault),
-    /// The words are none of the program's; nothing is read.
-    Usage,
-    NoMemory,
-    /// The file can't be read.
-    ReadFault,
-    WriteFault,
-}
-
-impl Ending {
-    /// The exit status.
-    pub(crate) fn number(&self) -> u8
-        ensures { result ≡ exit_status self.now }
-    {
-        match self {
-            Ending::Reported => 0,
-            Ending::Refused(_) => 1,
-            Ending::Usage => 2,
-            Ending::NoMemory => 3,
-            Ending::ReadFault => 4,
-            Ending::WriteFault => 5,
+/// The line that tells how a run ended; none if all is written.
+#[tactic(auto, using(crate::proofs::EndLemmas::other_line))]
+fn line_of(status: &Status) -> ShortText
+    ensures { result.bytes ≡ spec.line_of status.now }
+{
+    match status {
+        Status::Usage => {
+            short_text("usage: foresight_waits [--trace] [--json] [FILE] | --version\n")
         }
+        _ => message_of(status),
     }
 }
 
-impl From<LoadError> for Ending {
-    ghost use Rattle.foresight_waits.specs.Endings.{untold};
+/// Writes that line, as far as `err` takes it.
+pub(crate) fn tell<E: Sink>(status: &Status, err: &mut E)
+    ensures { spec.EndsWithLine (change E.held E.faults err.old err.new) status.now }
+{
+    let _told = write_all(err, line_of(status).as_str().as_bytes());
+}
 
-    ghost from_gives = { λ e ending. ending ≡ untold e };
-
-    fn from(e: LoadError) -> Ending {
-        match e {
-            LoadError::Refused(fault) => Ending::Refused(fault),
-            LoadError::NoMemory => Ending::NoMemory,
-        }
+/// Writes all bytes, and tells how that ended.
+pub(crate) fn written<O: Sink>(out: &mut O, bytes: &[u8]) -> Status
+    ensures { spec.Writes bytes.now (change O.held O.faults out.old out.new) result }
+{
+    if write_all(out, bytes) {
+        Status::Fine
+    } else {
+        Status::WriteFault
     }
 }

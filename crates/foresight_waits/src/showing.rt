@@ -1,54 +1,59 @@
-// What is written for a file.
+// What is written for an input.
 
-ghost use Rattle.foresight_waits.specs.Commands.{version_line};
-ghost use Rattle.foresight_waits.specs.Endings.{IsCounted, IsShown, IsWritten};
+ghost use Rattle.std.specs.Prelude.{◌≡◌, ◌≤◌, IfOk, IfErr, length};
+ghost use Rattle.byte_ends.specs.Changes.{change};
+ghost use Rattle.foresight_waits.specs.Runs as spec;
 
-use crate::ending::Ending;
+use crate::command::Subject;
+use crate::ending::written;
+use byte_ends::Sink;
+use serve_faults::Status;
+use serve_reading::LoadError;
 use std::alloc::Global;
-use std::io::Write;
-use waiting_pairs::{Fault, Form, MAX_AUDIT_INPUT, MAX_INPUT, told, told_trace};
+use waiting_pairs::{Form, MAX_AUDIT_INPUT, MAX_INPUT, told, told_trace};
 
-/// Writes in this form who may wait for whom in the handlers of a file.
-#[tactic(auto, using(crate::proofs::Untold::shown_untold))]
-pub(crate) fn show<W: Write>(alloc: Global, form: Form, bytes: &[u8], out: &mut W) -> Ending
-    ensures { IsShown form bytes.now (W.contents out.old) (W.contents out.new) result }
+/// The most bytes of an input.
+pub(crate) fn most(subject: Subject) -> usize
+    ensures { result ≡ spec.most subject }
 {
-    if bytes.len() > MAX_INPUT {
-        return Ending::Refused(Fault::TooLarge);
+    match subject {
+        Subject::Waits => MAX_INPUT,
+        Subject::Delays => MAX_AUDIT_INPUT,
     }
-    match told(alloc, form, bytes) {
+}
+
+/// The text that tells of an input in this form.
+fn text_of(
+    alloc: Global,
+    subject: Subject,
+    form: Form,
+    input: &[u8],
+) -> Result<Vec<u8>, LoadError>
+    requires { length input.now ≤ spec.most subject }
+    ensures told { IfOk result (λ text. spec.IsTextOf subject form input.now text.items) }
+    ensures refused { IfErr result (spec.IsReasonOf subject input.now) }
+{
+    match subject {
+        Subject::Waits => told(alloc, form, input),
+        Subject::Delays => told_trace(alloc, form, input),
+    }
+}
+
+/// Tells of an input in this form.
+#[tactic(auto, using(crate::proofs::ShowLemmas::shows_refusal, crate::proofs::ShowLemmas::shows_nothing))]
+pub(crate) fn show<O: Sink>(
+    alloc: Global,
+    subject: Subject,
+    form: Form,
+    input: &[u8],
+    out: &mut O,
+) -> Status
+    requires { length input.now ≤ spec.most subject }
+    ensures { spec.Shows subject form input.now (change O.held O.faults out.old out.new) result }
+{
+    match text_of(alloc, subject, form, input) {
         Ok(text) => written(out, &text),
-        Err(e) => Ending::from(e),
-    }
-}
-
-/// Writes in this form who waited for whom in the trace that a file ends in.
-#[tactic(auto, using(crate::proofs::Untold::counted_untold))]
-pub(crate) fn count<W: Write>(alloc: Global, form: Form, bytes: &[u8], out: &mut W) -> Ending
-    ensures { IsCounted form bytes.now (W.contents out.old) (W.contents out.new) result }
-{
-    if bytes.len() > MAX_AUDIT_INPUT {
-        return Ending::Refused(Fault::TooLarge);
-    }
-    match told_trace(alloc, form, bytes) {
-        Ok(text) => written(out, &text),
-        Err(e) => Ending::from(e),
-    }
-}
-
-/// Writes the line that tells the program's version.
-pub(crate) fn show_version<W: Write>(out: &mut W) -> Ending
-    ensures { IsWritten version_line (W.contents out.old) (W.contents out.new) result }
-{
-    written(out, b"foresight_waits 2.0\n")
-}
-
-/// Writes all bytes, and tells how that ended.
-fn written<W: Write>(out: &mut W, bytes: &[u8]) -> Ending
-    ensures { IsWritten bytes.now (W.contents out.old) (W.contents out.new) result }
-{
-    match out.write_all(bytes) {
-        Ok(()) => Ending::Reported,
-        Err(_) => Ending::WriteFault,
+        Err(LoadError::Refused(fault)) => Status::Refused(fault),
+        Err(LoadError::NoMemory) => Status::NoMemory,
     }
 }

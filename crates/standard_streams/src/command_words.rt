@@ -8,13 +8,25 @@ use std::env;
 use std::env::Args;
 use std::io::ErrorKind;
 
-/// The words after the program's name. Where one isn't text there are none, which is no command
-/// line either.
-pub fn words(rt: &HostRuntime) -> Result<Vec<String>, AllocError> {
+/// The words after the program's name; none where one of them isn't text.
+pub fn text_words(rt: &HostRuntime) -> Result<Option<Vec<String>>, AllocError> {
     match env::args(rt) {
-        Ok(args) => behind_name(rt.alloc(), args),
+        Ok(args) => match behind_name(rt.alloc(), args) {
+            Ok(words) => Ok(Some(words)),
+            Err(e) => Err(e),
+        },
         Err(e) if e.kind() == ErrorKind::OutOfMemory => Err(AllocError),
-        Err(_) => Ok(Vec::new(rt.alloc())),
+        Err(_) => Ok(None),
+    }
+}
+
+/// The words after the program's name. Where one isn't text there are no words, which is no command
+/// line either of a program that wants some.
+pub fn words(rt: &HostRuntime) -> Result<Vec<String>, AllocError> {
+    match text_words(rt) {
+        Ok(Some(words)) => Ok(words),
+        Ok(None) => Ok(Vec::new(rt.alloc())),
+        Err(e) => Err(e),
     }
 }
 

@@ -15,7 +15,7 @@ mod output;
 mod tests;
 mod tries;
 
-pub use command_words::words;
+pub use command_words::{text_words, words};
 pub use file_input::FileInput;
 pub use input::Input;
 pub use opens_files::{Opened, OpensFiles};

@@ -1,3 +1,4 @@
+pub mod Again
 pub mod Causes
 pub mod Chains
 pub mod Chosen

@@ -1,9 +1,10 @@
 // Who waits for whom.
 
-ghost use Rattle.std.specs.Prelude.{◌+◌, ◌<◌, List, IfOk, OnOk, length};
+ghost use Rattle.std.specs.Prelude.{◌≡◌, ◌++◌, ◌+◌, ◌-◌, ◌<◌, List, IfOk, OnOk, length, map};
 ghost use Rattle.check_meaning.specs.Code.{points};
 ghost use Rattle.serve_reading.specs.Resolved.{code_at};
-ghost use Rattle.waiting_pairs.specs.Waits.{Adds, AreWaits, at_point, of_holder};
+ghost use Rattle.waiting_pairs.specs.Again.{AreAlike, moved_to};
+ghost use Rattle.waiting_pairs.specs.Waits.{Adds, AreWaits, of_holder};
 ghost use Rattle.waiting_pairs.specs.Chosen.{IsKnown};
 ghost use Rattle.waiting_pairs.specs.declared.asked.Asked.{Asked};
 
@@ -28,23 +29,59 @@ pub struct Wait {
     pub asked: Asked,
 }
 
-/// The operations that the symbols of a point delay join `out`.
-fn add_point(
+/// The operations that the symbols of a point delay.
+fn waits_at(
     alloc: Global,
     program: &Program,
     known: &mut Known,
     holder: u32,
     point: u32,
-    out: &mut Vec<Wait>,
-) -> Result<(), NoMemory>
+) -> Result<Vec<Wait>, NoMemory>
     requires holder { holder < length program.now.file.handlers }
     requires point { point < 1 + points (code_at program.now.file holder) }
-    ensures { (asked : List Asked) → IsKnown asked known.old → OnOk result (IsKnown asked known.new
-        × Adds (at_point program.now asked holder point) out.old.items out.new.items) }
+    ensures { (asked : List Asked) → IsKnown asked known.old
+        → IfOk result (λ found. IsKnown asked known.new
+        × AreAlike program.now asked holder point found.items) }
 {
+    let mut out = Vec::new(alloc);
     let symbols = program.declaration(holder, point);
     for symbol in symbols {
-        known.add_against(alloc, holder, point, symbol, out)?;
+        known.add_against(alloc, holder, point, symbol, &mut out)?;
+    }
+    Ok(out)
+}
+
+/// The same, where those of the point before it are known: if the same is declared at both, these
+/// are they.
+#[tactic(auto, using(crate::proofs::Adding::alike_next))]
+fn waits_next(
+    alloc: Global,
+    program: &Program,
+    known: &mut Known,
+    holder: u32,
+    point: u32,
+    last: Vec<Wait>,
+) -> Result<Vec<Wait>, NoMemory>
+    requires holder { holder < length program.now.file.handlers }
+    requires point { point < 1 + points (code_at program.now.file holder) }
+    ensures { (asked : List Asked) → IsKnown asked known.old
+        → (0 < point → AreAlike program.now asked holder (point - 1) last.items)
+        → IfOk result (λ found. IsKnown asked known.new
+        × AreAlike program.now asked holder point found.items) }
+{
+    if program.alike(holder, point) < point {
+        Ok(last)
+    } else {
+        waits_at(alloc, program, known, holder, point)
+    }
+}
+
+/// These waits join `out`, at this point.
+fn add_at(point: u32, waits: &[Wait], out: &mut Vec<Wait>) -> Result<(), NoMemory>
+    ensures { OnOk result (out.new.items ≡ out.old.items ++ map (moved_to point) waits.now) }
+{
+    for wait in waits {
+        out.push(Wait { point, ..*wait })?;
     }
     Ok(())
 }
@@ -62,8 +99,10 @@ fn add_holder(
         × Adds (of_holder program.now asked holder) out.old.items out.new.items) }
 {
     let count = program.checked().handler(holder).points;
+    let mut last = Vec::new(alloc);
     for point in 0..count {
-        add_point(alloc, program, known, holder, point, out)?;
+        last = waits_next(alloc, program, known, holder, point, last)?;
+        add_at(point, &last, out)?;
     }
     Ok(())
 }

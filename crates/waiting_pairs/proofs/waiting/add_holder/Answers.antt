@@ -1,16 +1,25 @@
-use Rattle.std.proofs.Common.{◌≡◌, ℕ, ◌+◌, ap, subst, ◌∙◌, arith}
+use Rattle.std.proofs.Common.{◌≡◌, ℕ, ◌+◌, ◌-◌, ap, sym, subst, ◌∙◌, arith, List}
 use Rattle.check_meaning.specs.Code.{points}
 use Rattle.serve_reading.specs.Language.{File}
 use Rattle.serve_reading.specs.Resolved.{code_at}
+use Rattle.waiting_pairs.specs.Again.{AreAlike}
+use Rattle.waiting_pairs.specs.declared.waiting.Wait.{Wait}
 use Rattle.waiting_pairs.specs.Waits.{Adds, at_point, gather}
-use Rattle.waiting_pairs.proofs.Adding.{adds_gather}
+use Rattle.waiting_pairs.proofs.Adding.{adds_alike, adds_gather, adds_none}
 use Rattle.waiting_pairs.proofs.waiting.add_holder.Goals as goal
+
+pub loop-point-init : goal.loop-point-init
+loop-point-init c = λ asked k. (k, adds_none c.args.out.now.items, λ l. absurd (omega (arith, l)))
 
 pub loop-point-preserved : goal.loop-point-preserved
 loop-point-preserved c = λ asked k.
     let so_far = c.loop-point.invariant asked k in
-    let one = c.in_ok-add_point.ensures asked so_far.0 in
-    (one.0, adds_gather (at_point c.args.program.now asked c.args.holder) c.loop-point.point c.args.out.now.items c.loop-point.out.items c.add_point.new.out.items one.1 so_far.1)
+    let here : c.loop-point.point ≡ c.loop-point.point + 1 - 1 = omega arith in
+    let found = c.in_ok-last.ensures asked so_far.0 so_far.2 in
+    let alike : AreAlike c.args.program.now asked c.args.holder c.loop-point.point c.deref.result.now =
+    subst (λ (z : List Wait). AreAlike c.args.program.now asked c.args.holder c.loop-point.point z) (sym c.deref.ensures.value) found.1 in
+    let one = adds_alike c.args.program.now asked c.args.holder c.loop-point.point c.deref.result.now c.loop-point.out.items c.add_at.new.out.items alike c.in_ok-add_at.ensures in
+    (found.0, adds_gather (at_point c.args.program.now asked c.args.holder) c.loop-point.point c.args.out.now.items c.loop-point.out.items c.add_at.new.out.items one so_far.1, λ _. subst (λ (n : ℕ). AreAlike c.args.program.now asked c.args.holder n c.in_ok-last.last.items) here found.1)
 
 pub returns : goal.returns
 returns c = λ asked k.
