@@ -88,10 +88,10 @@ class _Operation(c.Structure):
 
 
 def _loaded():
-    """The shared object, of this file's version."""
+    """The shared object, whose first number is this file's, and whose second is no lower."""
     beside = os.path.join(os.path.dirname(os.path.abspath(__file__)), "libforesight.so")
     name = os.environ.get("FORESIGHT_LIBRARY") or (
-        beside if os.path.exists(beside) else "libforesight.so")
+        beside if os.path.exists(beside) else f"libforesight.so.{VERSION_NUMBER // 10000}")
     library = c.CDLL(name)
     for call in ("session_open", "session_serve", "session_dump", "session_close", "session_begin",
                  "session_call", "session_narrow", "session_end", "session_name", "session_text",
@@ -99,8 +99,9 @@ def _loaded():
                  "ticket_begin", "ticket_call", "ticket_narrow", "ticket_end", "tables_close"):
         getattr(library, f"foresight_{call}").restype = c.c_uint8
     library.foresight_version.restype = c.c_uint32
-    if library.foresight_version() != VERSION_NUMBER:
-        raise ImportError(f"{name} is of version {library.foresight_version()}")
+    version = library.foresight_version()
+    if version < VERSION_NUMBER or version // 10000 != VERSION_NUMBER // 10000:
+        raise ImportError(f"{name} is of version {version}")
     return library
 
 

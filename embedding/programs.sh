@@ -58,9 +58,18 @@ ARCHIVE
   fi
 }
 
+# The version of the library, as the headers have it.
+library_version() {
+  sed -n 's/^#define FORESIGHT_VERSION "\(.*\)"/\1/p' embedding/foresight_tickets.h
+}
+
+# The name under which programs ask for the shared object: it changes with the first number alone.
+shared_name() { echo "libforesight.so.$(library_version | cut -d . -f 1)"; }
+
 # Makes of an archive with both parts a shared object, for languages that load one.
 shared_library() {
-  "$kit/toolchain/bin/ld.lld" -m elf_x86_64 -shared -z relro -z now -z noexecstack -o "$2" \
+  "$kit/toolchain/bin/ld.lld" -m elf_x86_64 -shared -z relro -z now -z noexecstack \
+    -soname "$(shared_name)" -o "$2" \
     --whole-archive "$1" --no-whole-archive "$kit/toolchain/lib/libc.so.6"
 }
 
