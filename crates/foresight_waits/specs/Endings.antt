@@ -8,7 +8,7 @@ use Rattle.serve_faults.specs.declared.status.Status.TheVariants.{Fine, Refused,
 
 -- the line that tells the version
 abbrev pub version_line : List ℕ
-version_line = codes "foresight_waits 2.0\n"
+version_line = codes "foresight_waits 2.1\n"
 
 -- the line on the error output; none where all is written
 abbrev pub line_of : Status → List ℕ

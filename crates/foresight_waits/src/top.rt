@@ -96,7 +96,7 @@ fn answer<I: Source, F: OpensFiles, O: Sink>(
         Some(Command::Tell(subject, form, Some(name))) => {
             tell_of_file(alloc, subject, form, name, files, out)
         }
-        Some(Command::Version) => written(out, b"foresight_waits 2.0\n"),
+        Some(Command::Version) => written(out, b"foresight_waits 2.1\n"),
         None => Status::Usage,
     }
 }

@@ -23,7 +23,7 @@ ended text = text ++ 10 ∷ []
 
 -- the line that tells the version
 abbrev pub version_line : List ℕ
-version_line = ended (codes "foresight_where 2.0")
+version_line = ended (codes "foresight_where 2.1")
 
 -- the JSON that tells of nothing
 abbrev pub null_line : List ℕ

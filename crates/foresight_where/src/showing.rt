@@ -131,5 +131,5 @@ pub(crate) fn show_version<O: Sink>(out: &mut O) -> Ending
     ensures prints { Prints version_line (change O.held O.faults out.old out.new) result }
     ensures memory { result ≢ NoMemory }
 {
-    written(out, b"foresight_where 2.0\n", Ending::Reported)
+    written(out, b"foresight_where 2.1\n", Ending::Reported)
 }

@@ -122,7 +122,7 @@ fn runs_without_faults(rt: HostRuntime) -> Result<(), Fail> {
             "--version",
             REFUSED,
             Ending::Reported,
-            "foresight_where 2.0\n",
+            "foresight_where 2.1\n",
         ),
         ("small large", REFUSED, Ending::Usage, ""),
         ("--json small", REFUSED, Ending::Reported, JSON),
