@@ -4,6 +4,8 @@ ghost use Rattle.std.specs.Prelude.{◌≡◌, ℕ, suc, List, [], ◌∷◌, �
 ghost use Rattle.session_values.specs.declared.reply.Reply.{Reply as Given};
 ghost use Rattle.session_values.specs.Opening.{Pair};
 
+use crate::arguments::Arguments;
+use declaration_insertion::Program;
 use session_values::{Names, Opening, Reply};
 use std::marker::Model;
 
@@ -29,6 +31,8 @@ impl Model for History {
 unsafe impl Send for History {}
 
 impl History {
+    ghost use Rattle.live_session.specs.Invoking.{line_of};
+
     /// A session was opened with these names and entries.
     pub(crate) fn opened(_names: &Names, _opening: &Opening) -> History
         ensures { result ≡ record {
@@ -49,6 +53,27 @@ impl History {
           first_names = self.now.first_names;
           driven = self.now.driven;
           lines = self.now.lines ++ line.now.now ∷ [];
+          replies = self.now.replies ++ reply.now ∷ [];
+        } }
+    {
+        History {}
+    }
+
+    /// The request of a handler with these arguments was served, with this reply.
+    pub(crate) fn invoked(
+        &self,
+        _program: &Program,
+        _names: &Names,
+        _h: &u32,
+        _args: &Arguments,
+        reply: &Reply,
+    ) -> History
+        ensures { result ≡ record {
+          opened = self.now.opened;
+          first_names = self.now.first_names;
+          driven = self.now.driven;
+          lines = self.now.lines
+              ++ line_of _names.now _program.now.file _h.now _args.now.values.items ∷ [];
           replies = self.now.replies ++ reply.now ∷ [];
         } }
     {
