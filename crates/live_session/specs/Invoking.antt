@@ -1,20 +1,16 @@
 -- What a request by its handler's number is answered: as the line that says it.
-use Rattle.std.specs.Prelude.{◌≡◌, ◌≢◌, ℕ, ◌<◌, ◌≤◌, ◌⊎◌, List, [], ◌∷◌, ◌++◌, codes, length, map}
-use Rattle.std.specs.Prelude.{if◌then◌else◌, Option, Some, None, slice_get, Result, Ok, Err}
-use Rattle.std.specs.Prelude.{MatchOption}
-use Rattle.std.specs.Fmt.{signed_decimal}
-use Rattle.std.specs.Option.{option_or, unwrap_or}
+use Rattle.std.specs.Prelude.{◌≡◌, ◌≢◌, ℕ, ◌<◌, ◌≤◌, List, [], ◌∷◌, ◌++◌, length, map, Option}
+use Rattle.std.specs.Prelude.{Some, None, slice_get, Result, Ok, Err}
+use Rattle.std.specs.List.{AllByRecursion}
 use Rattle.session_values.specs.declared.reply.Reply.{Reply}
 use Rattle.session_values.specs.declared.value.Value.{Value}
-use Rattle.session_values.specs.declared.value.Value.TheVariants.{Num}
 use Rattle.session_values.specs.ReplyText.{value_text}
-use Rattle.session_values.specs.Values.{IsValue}
 use Rattle.syntax_trees.specs.declared.file.Handler.{Handler}
 use Rattle.handler_check.specs.File.{File}
 use Rattle.handler_check.specs.Resolved.{params_at}
 use Rattle.text_lines.specs.Rows.{Row, row_of}
 use Rattle.text_lines.specs.Text.{Text}
-use Rattle.text_lines.specs.Values.{is_symbol, placed, placed_all, value_of}
+use Rattle.text_lines.specs.Values.{placed_all}
 use Rattle.text_lines.specs.Words.{spaced}
 use Rattle.live_session.specs.declared.answers.Answered.{Answered}
 use Rattle.live_session.specs.declared.answers.Answered.TheVariants as answered
@@ -25,7 +21,7 @@ use Rattle.declaration_insertion.specs.Program.{ProgramView}
 use Rattle.driven_tickets.specs.Desk.{TicketsView}
 use Rattle.live_session.specs.Accepting.{IsTurnedAway}
 use Rattle.live_session.specs.Answers.{TextAnswered, reply_line}
-use Rattle.live_session.specs.ArgumentWords.{first_fault, name_at, words_of}
+use Rattle.live_session.specs.ArgumentWords.{IsHeld, first_fault, name_at, words_of}
 use Rattle.live_session.specs.Live.{LiveView}
 
 -- ---- the line that says a request
@@ -101,6 +97,10 @@ IsHandlerNamed v name h =
 
 -- ---- on the way. Only this crate's own functions cite these.
 
+-- a word says each argument, and a program holds its number
+abbrev pub AreFine : List Text → List Argument → Type 0
+AreFine names args = (first_fault names args ≡ None) × AllByRecursion IsHeld args
+
 -- why arguments aren't read over these names, of which there may be so many
 abbrev pub AreNotRead : List Text → ℕ → List Argument → InvokeError → Type 0
 AreNotRead names most args uninvoked.UnknownHandler = ⊥
@@ -109,11 +109,11 @@ AreNotRead names most args uninvoked.NoSymbol =
     first_fault names args ≡ Some uninvoked.NoSymbol
 AreNotRead names most args uninvoked.NoName = first_fault names args ≡ Some uninvoked.NoName
 AreNotRead names most args uninvoked.TooManyNames =
-    (first_fault names args ≡ None) × (most < length (placed_all names (words_of names args)))
+    AreFine names args × (most < length (placed_all names (words_of names args)))
 AreNotRead names most args (uninvoked.Delayed u) = ⊥
 AreNotRead names most args uninvoked.NoNumber = ⊥
 AreNotRead names most args uninvoked.NoMemory =
-    (first_fault names args ≡ None) × (placed_all names (words_of names args) ≢ names)
+    AreFine names args × (placed_all names (words_of names args) ≢ names)
 
 -- why a request isn't read
 abbrev pub IsNotGiven : File → List Text → ℕ → ℕ → List Argument → InvokeError → Type 0
@@ -132,6 +132,13 @@ invoke_error (answered.Delayed u) = uninvoked.Delayed u
 invoke_error answered.NoNumber = uninvoked.NoNumber
 invoke_error answered.NoMemory = uninvoked.NoMemory
 
+-- it can be said by a line, and a program holds its numbers, but its row isn't accepted
+abbrev pub IsSaidAway : ProgramView → TicketsView → List Text → ℕ → ℕ → List Argument → Answered
+    → Type 0
+IsSaidAway p k names most h args a =
+    CanBeSaid names p.file h args × AllByRecursion IsHeld args
+    × IsTurnedAway p k names most (row_given names p.file h args) a
+
 -- why a request isn't accepted
 abbrev pub IsNotReceived : ProgramView → TicketsView → List Text → ℕ → ℕ → List Argument
     → InvokeError → Type 0
@@ -142,11 +149,11 @@ IsNotReceived p k names most h args uninvoked.NoSymbol =
     Takes p.file h (length args) × (first_fault names args ≡ Some uninvoked.NoSymbol)
 IsNotReceived p k names most h args uninvoked.NoName =
     Takes p.file h (length args) × (first_fault names args ≡ Some uninvoked.NoName)
-IsNotReceived p k names most h args uninvoked.TooManyNames = CanBeSaid names p.file h args
-    × IsTurnedAway p k names most (row_given names p.file h args) answered.TooManyNames
-IsNotReceived p k names most h args (uninvoked.Delayed u) = CanBeSaid names p.file h args
-    × IsTurnedAway p k names most (row_given names p.file h args) (answered.Delayed u)
-IsNotReceived p k names most h args uninvoked.NoNumber = CanBeSaid names p.file h args
-    × IsTurnedAway p k names most (row_given names p.file h args) answered.NoNumber
-IsNotReceived p k names most h args uninvoked.NoMemory = CanBeSaid names p.file h args
-    × IsTurnedAway p k names most (row_given names p.file h args) answered.NoMemory
+IsNotReceived p k names most h args uninvoked.TooManyNames =
+    IsSaidAway p k names most h args answered.TooManyNames
+IsNotReceived p k names most h args (uninvoked.Delayed u) =
+    IsSaidAway p k names most h args (answered.Delayed u)
+IsNotReceived p k names most h args uninvoked.NoNumber =
+    IsSaidAway p k names most h args answered.NoNumber
+IsNotReceived p k names most h args uninvoked.NoMemory =
+    IsSaidAway p k names most h args answered.NoMemory

@@ -57,7 +57,8 @@ fn fault(argument: Argument<'_>, names: &Names) -> Option<InvokeError>
 /// Why the first of some arguments that is none isn't one.
 pub(crate) fn first_fault(arguments: &[Argument<'_>], names: &Names) -> Option<InvokeError>
     ensures fault { result ≡ spec.first_fault names.now arguments.now }
-    ensures held { result ≡ None → AllByRecursion spec.IsHeld arguments.now }
+    ensures held { spec.first_fault names.now arguments.now ≡ None
+        → AllByRecursion spec.IsHeld arguments.now }
 {
     for argument in arguments {
         if let Some(why) = fault(*argument, names) {

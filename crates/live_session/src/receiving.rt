@@ -1,6 +1,6 @@
 // Accepting a request that is given without a line: its arguments, and the room that it takes.
 
-ghost use Rattle.std.specs.Prelude.{◌≡◌, ◌≢◌, ◌<◌, ◌≤◌, IfErr, None, OnErr, OnOk, length};
+ghost use Rattle.std.specs.Prelude.{◌≡◌, ◌≢◌, ◌<◌, ◌≤◌, IfErr, OnErr, OnOk, length};
 ghost use Rattle.std.specs.Prelude.{vec_capacity};
 ghost use Rattle.std.specs.List.{AllByRecursion};
 ghost use Rattle.session_values.specs.Limits.{max_variables};
@@ -10,9 +10,9 @@ ghost use Rattle.request_files.specs.Requests.{AreKnown};
 ghost use Rattle.live_session.specs.Accepting.{IsAccepted};
 ghost use Rattle.live_session.specs.Entries.{IsAdmitted};
 ghost use Rattle.live_session.specs.Held.{HaveRoomFor, held};
-ghost use Rattle.live_session.specs.ArgumentWords.{IsHeld, first_fault as fault_in, words_of};
-ghost use Rattle.live_session.specs.Invoking.{AreNotRead, CanBeSaid, IsNotGiven, IsNotReceived};
-ghost use Rattle.live_session.specs.Invoking.{invoke_error, row_given};
+ghost use Rattle.live_session.specs.ArgumentWords.{IsHeld, words_of};
+ghost use Rattle.live_session.specs.Invoking.{AreFine, AreNotRead, CanBeSaid, IsNotGiven};
+ghost use Rattle.live_session.specs.Invoking.{IsNotReceived, invoke_error, row_given};
 
 use crate::accepting::forget;
 use crate::admission::Admission;
@@ -36,7 +36,7 @@ fn place_arguments(
     requires most { length names.old ≤ most }
     requires bound { most ≤ 4000000000 }
     requires room { max_variables ≤ vec_capacity args.old }
-    requires fine { fault_in names.old arguments.now ≡ None }
+    requires fine { AreFine names.old arguments.now }
     requires new { placed_all names.old (words_of names.old arguments.now) ≢ names.old }
     ensures names { OnOk result (names.new
         ≡ placed_all names.old (words_of names.old arguments.now)) }
@@ -75,8 +75,7 @@ fn read_arguments(
     requires most { length names.old ≤ most }
     requires bound { most ≤ 4000000000 }
     requires room { max_variables ≤ vec_capacity args.old }
-    ensures fine { OnOk result (fault_in names.old arguments.now ≡ None) }
-    ensures held { OnOk result (AllByRecursion IsHeld arguments.now) }
+    ensures fine { OnOk result (AreFine names.old arguments.now) }
     ensures names { OnOk result (names.new
         ≡ placed_all names.old (words_of names.old arguments.now)) }
     ensures few { OnOk result (length names.new ≤ most) }
