@@ -1,5 +1,6 @@
 -- Arguments that are given without a line, and the words that say them.
 use Rattle.std.proofs.Common.{◌≡◌, ◌≢◌, ℕ, suc, zero, ◌+◌, ◌<◌, ◌≤◌, Bool, true, false, if◌then◌else◌, List, [], ◌∷◌, ◌++◌, length, map, drop, codes, Option, Some, None, slice_get, refl, sym, ◌∙◌, ap, subst, arith, length-append, ℤ}
+use Rattle.std.proofs.lemmas.List.{drop_all}
 use Rattle.std.proofs.lemmas.Option.{slice_get_past}
 use Rattle.std.specs.Fmt.{signed_decimal}
 use Rattle.std.specs.List.{AllByRecursion, list_any, position}
@@ -17,7 +18,7 @@ use Rattle.text_lines.specs.Text.{Text}
 use Rattle.text_lines.specs.Values.{is_symbol, placed, placed_all, value_of, values_of}
 use Rattle.text_lines.specs.Words.{IsWord}
 use Rattle.text_lines.proofs.NumbersBack.{numeral}
-use Rattle.text_lines.proofs.ValueLemmas.{none_placed, placed_all_begins, placed_all_step, placed_begins, placed_by, value_by}
+use Rattle.text_lines.proofs.ValueLemmas.{Behind, none_placed, placed_all_begins, placed_all_step, placed_begins, placed_by, value_by}
 use Rattle.text_lines.proofs.ValuesBack.{nil_value, number_value}
 use Rattle.text_lines.proofs.WordsBack.{nil_word, number_word, symbol_word}
 use Rattle.live_session.specs.declared.answers.InvokeError.{InvokeError}
@@ -25,7 +26,7 @@ use Rattle.live_session.specs.declared.answers.InvokeError.TheVariants as uninvo
 use Rattle.live_session.specs.declared.argument.Argument.{Argument}
 use Rattle.live_session.specs.declared.argument.Argument.TheVariants as argument
 use Rattle.live_session.specs.ArgumentWords.{IsHeld, Known, argument_fault, first_fault, name_at, word_of, words_of}
-use Rattle.live_session.proofs.Words.{absent}
+use Rattle.live_session.proofs.Words.{absent, longer, symbol_found}
 
 -- ---- texts
 
@@ -104,7 +105,32 @@ known_name names n apart s =
       placed_by names w true s ∙ with_known names w (known_at w names n at),
     )
 
+-- the same of an argument that is one of these
+pub known_at_nil : (names : List Text) (a : Argument) → a ≡ argument.Nil → Known names (word_of names a) (Some Nil)
+known_at_nil names a is = subst (λ (x : Argument). Known names (word_of names x) (Some Nil)) (sym is) (known_nil names)
+
+pub known_at_number : (names : List Text) (a : Argument) (n z : ℤ) → a ≡ argument.Number n → z ≡ n → IsHeld a → Known names (word_of names a) (Some (Num z))
+known_at_number names a n z is same held =
+    let one : Known names (signed_decimal n) (Some (Num z)) = subst (λ (y : ℤ). Known names (signed_decimal n) (Some (Num y))) (sym same) (known_number names n (subst IsHeld is held)) in
+    subst (λ (x : Argument). Known names (word_of names x) (Some (Num z))) (sym is) one
+
+pub known_at_name : (names : List Text) (a : Argument) (n : ℕ) → a ≡ argument.Name n → AreDistinct names → argument_fault names a ≡ None → Known names (word_of names a) (Some (Sym n))
+known_at_name names a n is apart fine =
+    let yes = passed_test _ _ (subst (λ (x : Argument). argument_fault names x ≡ None) is fine) in
+    subst (λ (x : Argument). Known names (word_of names x) (Some (Sym n))) (sym is) (known_name names n apart yes)
+
 -- ---- all arguments
+
+pub held_at : (args : List Argument) (i : ℕ) (a : Argument) → AllByRecursion IsHeld args → slice_get args i ≡ Some a → IsHeld a
+held_at [] i a h at = absurd (cc)
+held_at (x ∷ xs) zero a h at = let same : x ≡ a = cc in subst IsHeld same h.0
+held_at (x ∷ xs) (suc i) a h at = held_at xs i a h.1 at
+
+-- a word that is new makes the names others
+pub made_new : (names ws0 : List Text) (w : Text) (ws : List Text) (list0 list : List Value) → Behind names ws0 names (w ∷ ws) list0 list → placed names w ≡ names ++ w ∷ [] → placed_all names ws0 ≢ names
+made_new names ws0 w ws list0 list b new =
+    let on : placed_all (names ++ w ∷ []) ws ≡ placed_all names ws0 = ap (λ (ns : List Text). placed_all ns ws) (sym new) ∙ sym (placed_all_step names w ws) ∙ b.left.behind in
+    longer names w (placed_all names ws0) (subst (Begins (names ++ w ∷ [])) on (placed_all_begins (names ++ w ∷ []) ws))
 
 -- nothing is wrong with the first, nor with the others
 pub fine_both : (o rest : Option InvokeError) → option_or o rest ≡ None → (o ≡ None) × (rest ≡ None)
@@ -133,3 +159,7 @@ words_are names [] h held = tt
 words_are names (a ∷ args) h held =
     let fine = fine_both (argument_fault names a) (first_fault names args) h in
     (word_is names a fine.0 held.0, words_are names args fine.1 held.1)
+
+-- behind the last argument no words are left
+pub no_words : (names : List Text) (args : List Argument) (i : ℕ) → length args ≤ i → words_of names (drop i args) ≡ []
+no_words names args i past = ap (words_of names) (drop_all i args past)

@@ -12,6 +12,7 @@ pub mod OneFile
 pub mod OneRow
 pub mod OpenLemmas
 pub mod Reading
+pub mod Received
 pub mod Room
 pub mod Runs
 pub mod Said

@@ -6,10 +6,12 @@ use Rattle.std.specs.Char.{is_ascii_alphabetic}
 use Rattle.std.specs.Fmt.{decimal, signed_decimal}
 use Rattle.std.specs.List.{AllByRecursion, flat_map, list_all, position_or_len}
 use Rattle.session_values.specs.Limits.{max_input, max_variables}
-use Rattle.session_values.specs.Names.{AreDistinct, place_of}
+use Rattle.session_values.specs.Names.{AreDistinct, Begins, place_of}
 use Rattle.session_values.specs.Values.{IsValue}
 use Rattle.session_values.specs.declared.value.Value.TheVariants.{Num}
+use Rattle.session_values.proofs.Named.{front_kept}
 use Rattle.session_values.proofs.NamesLemmas.{place_is}
+use Rattle.std.specs.Option.{unwrap_or}
 use Rattle.syntax_trees.specs.declared.file.Handler.{Handler}
 use Rattle.syntax_trees.specs.Marks.{declared, name_marks}
 use Rattle.syntax_trees.specs.Mentions.{file_mentions, handler_mentions, table_mentions}
@@ -179,6 +181,13 @@ handler_is names f h low apart known keeps =
     ap (λ (o : Option Handler). position_or_len (named (place_of names (name_of names o))) f.handlers) x.1
     ∙ ap (λ (n : ℕ). position_or_len (named n) f.handlers) place
     ∙ first_named f.handlers h x.0.name x.0 x.1 refl (λ j y g q. one_place f keeps j h y x.0 g x.1 q)
+
+pub name_kept_by : (names new : List Text) (f : File) (h : ℕ) → Begins names new → h < length f.handlers → AreKnown names f → handler_name new f h ≡ handler_name names f h
+name_kept_by names new f h b low known =
+    let x = there f.handlers h low in
+    let at = text_there names x.0.name (known_at (length names) f.handlers h x.0 known x.1) in
+    let kept : name_at new x.0.name ≡ name_at names x.0.name = ap (λ (ns : List Text). name_at ns x.0.name) b.1 ∙ ap (λ (o : Option Text). unwrap_or o []) (front_kept names b.0 x.0.name (name_at names x.0.name) at) in
+    ap (name_of new) x.1 ∙ kept ∙ sym (ap (name_of names) x.1)
 
 -- ---- the whole line
 module _ (names : List Text) (f : File) (h : ℕ) (args : List Argument) (low : h < length f.handlers) (named : IsNamedFile names f) (fine : first_fault names args ≡ None) (held : AllByRecursion IsHeld args) where

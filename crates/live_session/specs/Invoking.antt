@@ -90,11 +90,6 @@ InvokeAnswered v h args (Err uninvoked.NoNumber) w =
 InvokeAnswered v h args (Err uninvoked.NoMemory) w =
     SaidAnswered v h args answered.NoMemory [] w
 
--- the handler of this number has this name
-abbrev pub IsHandlerNamed : LiveView → Text → ℕ → Type 0
-IsHandlerNamed v name h =
-    (h < length v.file.handlers) × (handler_name v.names v.file h ≡ name)
-
 -- ---- on the way. Only this crate's own functions cite these.
 
 -- a word says each argument, and a program holds its number

@@ -70,7 +70,8 @@ pub(crate) fn first_fault(arguments: &[Argument<'_>], names: &Names) -> Option<I
 
 /// The value of an argument that places no new name.
 fn known_argument(argument: Argument<'_>, names: &Names) -> Option<Value>
-    requires { spec.argument_fault names.now argument ≡ None }
+    requires fine { spec.argument_fault names.now argument ≡ None }
+    requires held { spec.IsHeld argument }
     ensures { spec.Known names.now (spec.word_of names.now argument.entry) result }
 {
     match argument {
@@ -96,6 +97,7 @@ pub(crate) fn known_arguments(
     list: &mut Vec<Value>,
 ) -> bool
     requires fine { spec.first_fault names.now arguments.now ≡ None }
+    requires held { AllByRecursion spec.IsHeld arguments.now }
     requires room { length list.old.items + length arguments.now ≤ vec_capacity list.old }
     ensures values { result ≡ true → list.new.items ≡ list.old.items
         ++ value_spec.values_of names.now (spec.words_of names.now arguments.now) }
@@ -117,6 +119,7 @@ pub(crate) fn known_arguments(
 /// The value of an argument, whose symbol is placed.
 fn placed_argument(argument: Argument<'_>, names: &mut Names) -> Result<Value, NoMemory>
     requires fine { spec.argument_fault names.old argument ≡ None }
+    requires held { spec.IsHeld argument }
     requires names { length names.old < 4294967295 }
     ensures value { IfOk result (λ v. value_spec.value_of names.new
         (spec.word_of names.old argument.entry) ≡ Some v) }
@@ -143,6 +146,7 @@ pub(crate) fn placed_arguments(
     list: &mut Vec<Value>,
 ) -> Result<(), NoMemory>
     requires fine { spec.first_fault names.old arguments.now ≡ None }
+    requires held { AllByRecursion spec.IsHeld arguments.now }
     requires names { length names.old + length arguments.now ≤ 4294967295 }
     requires room { length list.old.items + length arguments.now ≤ vec_capacity list.old }
     ensures values { OnOk result (list.new.items ≡ list.old.items

@@ -1,8 +1,9 @@
 // Requests by the number of their handler, without a text.
 
-ghost use Rattle.std.specs.Prelude.{◌≡◌, ℕ, ◌<◌, ◌≤◌, MatchOption, Some, length, slice_get};
+ghost use Rattle.std.specs.Prelude.{◌≡◌, ◌<◌, ◌≤◌, MatchOption, length};
 ghost use Rattle.handler_check.specs.Resolved.{params_at};
-ghost use Rattle.live_session.specs.Invoking.{InvokeAnswered, IsHandlerNamed, handler_name};
+ghost use Rattle.request_files.specs.Requests.{IsHandler};
+ghost use Rattle.live_session.specs.Invoking.{InvokeAnswered};
 
 use crate::accepting::handler;
 use crate::acting::acts;
@@ -15,10 +16,10 @@ use crate::session::LiveSession;
 use session_values::Reply;
 
 impl LiveSession {
-    /// The number of the handler with this name, if there is one. It stays as long as the session.
+    /// The number of the handler that a line with this first word is for, if there is one. It stays
+    /// as long as the session.
     pub fn handler_named(&self, name: &str) -> Option<u32>
-        ensures { MatchOption result ((h : ℕ) → IsHandlerNamed self.now name.now h → ⊥)
-            (IsHandlerNamed self.now name.now) }
+        ensures { IsHandler self.now.names self.now.file name.now result }
     {
         handler(self.program.checked(), &self.names, name)
     }
