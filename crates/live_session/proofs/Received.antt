@@ -1,8 +1,8 @@
 -- Requests that are given without a line: they are accepted as their rows are, and why others aren't.
-use Rattle.std.proofs.Common.{◌≡◌, ◌≢◌, ℕ, suc, ◌<◌, ◌≤◌, Bool, true, false, ◌&&◌, Option, Err, List, [], ◌∷◌, ◌++◌, length, map, Some, None, slice_get, refl, sym, ◌∙◌, ap, subst, arith}
+use Rattle.std.proofs.Common.{◌≡◌, ◌≢◌, ℕ, suc, ◌<◌, ◌≤◌, Bool, true, false, ◌&&◌, Option, Result, Ok, Err, OnOk, if◌then◌else◌, List, [], ◌∷◌, ◌++◌, length, map, Some, None, slice_get, refl, sym, ◌∙◌, ap, subst, arith}
 use Rattle.std.specs.List.{AllByRecursion, list_all, list_any}
 use Rattle.std.specs.Str.{bytes_eq}
-use Rattle.std.specs.Option.{is_some, unwrap_or}
+use Rattle.std.specs.Option.{is_some, option_or, unwrap_or}
 use Rattle.session_values.specs.Limits.{max_variables}
 use Rattle.session_values.specs.Names.{AreDistinct, Begins, place_of, with_text}
 use Rattle.session_values.specs.ReplyText.{value_text}
@@ -75,16 +75,48 @@ module _ (f : File) (names : List Text) (most h : ℕ) (args : List Argument) (l
   pub no_room : AreFine names args → placed_all names (words_of names args) ≢ names → (line_fault names f (row_given names f h args) ≡ None) × TakesMemory names f (row_given names f h args)
   no_room fine other = unread f names most (row_given names f h args) h (is, low) many answered.NoMemory (words_values names args fine.0 fine.1, other)
 
--- why arguments aren't read is why their request isn't
-pub not_given : (f : File) (names : List Text) (most h : ℕ) (args : List Argument) (e : InvokeError) → Takes f h (length args) → AreNotRead names most args e → IsNotGiven f names most h args e
-not_given f names most h args uninvoked.UnknownHandler takes why = absurd why
-not_given f names most h args uninvoked.Arity takes why = absurd why
-not_given f names most h args uninvoked.NoSymbol takes why = (takes, why)
-not_given f names most h args uninvoked.NoName takes why = (takes, why)
-not_given f names most h args uninvoked.TooManyNames takes why = (takes, why)
-not_given f names most h args (uninvoked.Delayed u) takes why = absurd why
-not_given f names most h args uninvoked.NoNumber takes why = absurd why
-not_given f names most h args uninvoked.NoMemory takes why = (takes, why)
+  pub received_if : (o : Result (Unit {0}) InvokeError) (new : List Text) (vals : List Value) → OnOk o (AreFine names args) → OnOk o (new ≡ placed_all names (words_of names args)) → OnOk o (length new ≤ most) → OnOk o (vals ≡ values_of new (words_of names args)) → OnOk o (IsAccepted f names most (row_given names f h args) new vals h)
+  received_if (Ok u) new vals fine placed few are = received new vals fine placed few are
+  received_if (Err e) new vals fine placed few are = tt
+
+-- ---- what an argument's fault may be
+abbrev IsFault : InvokeError → Type 0
+IsFault uninvoked.UnknownHandler = ⊥
+IsFault uninvoked.Arity = ⊥
+IsFault uninvoked.NoSymbol = Unit {0}
+IsFault uninvoked.NoName = Unit {0}
+IsFault uninvoked.TooManyNames = ⊥
+IsFault (uninvoked.Delayed u) = ⊥
+IsFault uninvoked.NoNumber = ⊥
+IsFault uninvoked.NoMemory = ⊥
+
+test_fault : (b : Bool) (f e : InvokeError) → IsFault f → (if b then None else Some f) ≡ Some e → IsFault e
+test_fault true f e is h = absurd (cc)
+test_fault false f e is h = let same : f ≡ e = cc in subst IsFault same is
+
+one_fault : (names : List Text) (a : Argument) (e : InvokeError) → argument_fault names a ≡ Some e → IsFault e
+one_fault names argument.Nil e h = absurd (cc)
+one_fault names (argument.Number n) e h = absurd (cc)
+one_fault names (argument.Symbol t) e h = test_fault (is_symbol t.now) uninvoked.NoSymbol e tt h
+one_fault names (argument.Name n) e h = test_fault (is_symbol (name_at names n)) uninvoked.NoName e tt h
+
+first_of : (o rest : Option InvokeError) → ((e : InvokeError) → o ≡ Some e → IsFault e) → ((e : InvokeError) → rest ≡ Some e → IsFault e) → (e : InvokeError) → option_or o rest ≡ Some e → IsFault e
+first_of None rest one more e h = more e h
+first_of (Some f) rest one more e h = one e h
+
+some_fault : (names : List Text) (args : List Argument) (e : InvokeError) → first_fault names args ≡ Some e → IsFault e
+some_fault names [] e h = absurd (cc)
+some_fault names (a ∷ args) e h = first_of (argument_fault names a) (first_fault names args) (one_fault names a) (some_fault names args) e h
+
+pub not_fine : (names : List Text) (most : ℕ) (args : List Argument) (e : InvokeError) → first_fault names args ≡ Some e → AreNotRead names most args e
+not_fine names most args uninvoked.UnknownHandler h = absurd (some_fault names args uninvoked.UnknownHandler h)
+not_fine names most args uninvoked.Arity h = absurd (some_fault names args uninvoked.Arity h)
+not_fine names most args uninvoked.NoSymbol h = h
+not_fine names most args uninvoked.NoName h = h
+not_fine names most args uninvoked.TooManyNames h = absurd (some_fault names args uninvoked.TooManyNames h)
+not_fine names most args (uninvoked.Delayed u) h = absurd (some_fault names args (uninvoked.Delayed u) h)
+not_fine names most args uninvoked.NoNumber h = absurd (some_fault names args uninvoked.NoNumber h)
+not_fine names most args uninvoked.NoMemory h = absurd (some_fault names args uninvoked.NoMemory h)
 
 -- why a request isn't read is why it isn't accepted
 module _ (p : ProgramView) (k : TicketsView) (names : List Text) (most h : ℕ) (args : List Argument) (apart : AreDistinct names) (known : AreKnown names p.file) (keeps : KeepsRules p.file) where

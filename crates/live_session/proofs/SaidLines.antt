@@ -14,11 +14,9 @@ use Rattle.session_values.proofs.NamesLemmas.{place_is}
 use Rattle.std.specs.Option.{unwrap_or}
 use Rattle.syntax_trees.specs.declared.file.Handler.{Handler}
 use Rattle.syntax_trees.specs.Marks.{declared, name_marks}
-use Rattle.syntax_trees.specs.Mentions.{file_mentions, handler_mentions, table_mentions}
+use Rattle.syntax_trees.specs.Mentions.{a_name, handler_mentions, table_mentions}
 use Rattle.syntax_trees.proofs.Mentions.{all_first}
-use Rattle.syntax_grammar.specs.declared.scan.Class.TheVariants as class
-use Rattle.syntax_grammar.specs.Scan.{is_in}
-use Rattle.syntax_grammar.specs.Texts.{HasText, IsNameText, IsNamedFile}
+use Rattle.serve_faults.specs.Language.{HasText, IsNamedFile}
 use Rattle.handler_check.specs.File.{File}
 use Rattle.handler_check.specs.declared.refusal.CheckRefusal.TheVariants.{Twice}
 use Rattle.handler_check.specs.FirstFault.{KeepsRules}
@@ -104,33 +102,41 @@ there [] h l = absurd (omega (arith, l))
 there (x ∷ hs) zero l = (x, refl)
 there (x ∷ hs) (suc h) l = there hs h (omega (arith, l))
 
-name_all : (p : ℕ → Bool) → ((b : ℕ) → is_in class.Name b ≡ true → p b ≡ true) → (bs : Text) → AllByRecursion (λ b. is_in class.Name b ≡ true) bs → list_all p bs ≡ true
-name_all p each [] h = refl
-name_all p each (b ∷ bs) h = ap (λ (t : Bool). t && list_all p bs) (each b h.0) ∙ name_all p each bs h.1
+name_all : (q p : ℕ → Bool) (bs : Text) → AllByRecursion (λ (b : ℕ). q b ≡ true) bs → ((b : ℕ) → q b ≡ true → p b ≡ true) → list_all p bs ≡ true
+name_all q p [] h each = refl
+name_all q p (b ∷ bs) h each = ap (λ (t : Bool). t && list_all p bs) (each b h.0) ∙ name_all q p bs h.1 each
 
 name_some : (w : Text) → is_ascii_alphabetic (slice_index w 0) ≡ true → 0 < length w
 name_some [] h = absurd (cc)
 name_some (b ∷ bs) h = omega arith
 
-name_word : (w : Text) → IsNameText w → IsWord w
-name_word w h = record {
-  some = name_some w h.run.letter;
-  all = name_all is_word_byte (λ b e. grind (arith, nat_tests, e)) w h.run.run;
-  line = name_all is_line_byte (λ b e. grind (arith, nat_tests, e)) w h.run.run;
+-- a word of at most 64 bytes
+pub record IsName (w : Text) : Type 0 where
+  pub word : IsWord w
+  pub short : IsShort w
+
+name_is : (names : List Text) (place : ℕ) → HasText names (a_name place) → IsName (name_at names place)
+name_is names place h = record {
+  word = record {
+    some = name_some (name_at names place) h.run.letter;
+    all = name_all _ is_word_byte (name_at names place) h.run.run (λ b e. grind (arith, nat_tests, e));
+    line = name_all _ is_line_byte (name_at names place) h.run.run (λ b e. grind (arith, nat_tests, e));
+  };
+  short = h.run.short;
 }
 
-named_in : (names : List Text) (hs : List Handler) (h : ℕ) (x : Handler) → AllByRecursion (HasText names) (flat_map handler_mentions hs) → slice_get hs h ≡ Some x → IsNameText (name_at names x.name)
+named_in : (names : List Text) (hs : List Handler) (h : ℕ) (x : Handler) → AllByRecursion (HasText names) (flat_map handler_mentions hs) → slice_get hs h ≡ Some x → IsName (name_at names x.name)
 named_in names [] h x all at = absurd (cc)
 named_in names (y ∷ hs) zero x all at =
     let same : y ≡ x = cc in
-    subst (λ (z : Handler). IsNameText (name_at names z.name)) same (all_first (HasText names) (handler_mentions y) (flat_map handler_mentions hs) all).0.0
+    subst (λ (z : Handler). IsName (name_at names z.name)) same (name_is names y.name (all_first (HasText names) (handler_mentions y) (flat_map handler_mentions hs) all).0.0)
 named_in names (y ∷ hs) (suc h) x all at = named_in names hs h x (all_first (HasText names) (handler_mentions y) (flat_map handler_mentions hs) all).1 at
 
-pub handler_text : (names : List Text) (f : File) (h : ℕ) → h < length f.handlers → IsNamedFile names f → IsNameText (handler_name names f h)
+handler_text : (names : List Text) (f : File) (h : ℕ) → h < length f.handlers → IsNamedFile names f → IsName (handler_name names f h)
 handler_text names f h low named =
     let x = there f.handlers h low in
     let all = (all_first (HasText names) (flat_map table_mentions f.tables) (flat_map handler_mentions f.handlers) named).1 in
-    subst (λ (o : Option Handler). IsNameText (name_of names o)) (sym x.1) (named_in names f.handlers h x.0 all x.1)
+    subst (λ (o : Option Handler). IsName (name_of names o)) (sym x.1) (named_in names f.handlers h x.0 all x.1)
 
 -- ---- the handler of that name
 abbrev named : ℕ → Handler → Bool
@@ -197,15 +203,15 @@ module _ (names : List Text) (f : File) (h : ℕ) (args : List Argument) (low : 
   abbrev ws : List Text
   ws = words_of names args
 
-  text : IsNameText name
+  text : IsName name
   text = handler_text names f h low named
 
   pub line_words : words (line_given names f h args) ≡ name ∷ ws
-  line_words = words_back (name ∷ ws) (name_word name text, words_are names args fine held)
+  line_words = words_back (name ∷ ws) (text.word, words_are names args fine held)
 
   one : lines (line_given names f h args) ≡ line_given names f h args ∷ []
   one =
-      let w = name_word name text in
+      let w = text.word in
       let some = length-append name (after_spaces ws) in
       one_line (line_given names f h args) (omega (arith, some, w.some)) (line_append name (after_spaces ws) w.line (after_line ws (words_are names args fine held)))
 
@@ -214,7 +220,7 @@ module _ (names : List Text) (f : File) (h : ℕ) (args : List Argument) (low : 
       let whole = length-append name (after_spaces ws) in
       let more = after_short ws (words_short names args fine held) in
       let long : length ws ≡ length args = words_long names args in
-      let most : length (line_given names f h args) ≤ max_input = omega (arith, whole, more, long, few, text.run.short) in
+      let most : length (line_given names f h args) ≤ max_input = omega (arith, whole, more, long, few, text.short) in
       grind (arith, nat_tests, most)
 
 -- what its row is answered is what the line is answered
