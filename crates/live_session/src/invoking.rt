@@ -72,7 +72,9 @@ impl LiveSession {
             &mut self.scratch,
             &mut self.tables,
         );
-        self.history = self.history.invoked(&self.program, &self.names, &handler, &self.args, &reply);
+        self.history = self
+            .history
+            .invoked(&self.program, &self.names, &handler, &self.args, &reply);
         self.tickets.passed(&done);
         Ok(reply)
     }

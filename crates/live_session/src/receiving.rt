@@ -161,7 +161,14 @@ pub(crate) fn accept_given(
     ensures capacity { vec_capacity args.new ≡ vec_capacity args.old }
 {
     let before = names.len();
-    match read_given(by.program.checked(), h, arguments, names, by.most_names, args) {
+    match read_given(
+        by.program.checked(),
+        h,
+        arguments,
+        names,
+        by.most_names,
+        args,
+    ) {
         Ok(()) => {}
         Err(why) => return Err(why),
     }

@@ -25,7 +25,10 @@ fn answers(alloc: Global) -> Option<[Told; 8]> {
     let Ok(mut session) = LiveSession::open(alloc, BOOK.as_bytes(), 7, 8) else {
         return None;
     };
-    let (Some(store), Some(fetch)) = (session.handler_named("store"), session.handler_named("fetch")) else {
+    let (Some(store), Some(fetch)) = (
+        session.handler_named("store"),
+        session.handler_named("fetch"),
+    ) else {
         return None;
     };
     let text = "x #\n y";
