@@ -164,9 +164,9 @@ module _ (v : LiveView) (live : IsLive v) (h : ℕ) (args : List Argument) where
 
   pub not_invoked : (e : InvokeError) (w : LiveView) → w ≡ v → IsNotReceived (program_in v) v.tickets v.names v.most_names h args e → InvokeAnswered v h args (Err e) w
   not_invoked uninvoked.UnknownHandler w same why = (same, why)
-  not_invoked uninvoked.Arity w same why = (same, why)
-  not_invoked uninvoked.NoSymbol w same why = (same, why)
-  not_invoked uninvoked.NoName w same why = (same, why)
+  not_invoked uninvoked.Arity w same why = (same, why.0, why.1)
+  not_invoked uninvoked.NoSymbol w same why = (same, why.0, why.1)
+  not_invoked uninvoked.NoName w same why = (same, why.0, why.1)
   not_invoked uninvoked.TooManyNames w same why = away answered.TooManyNames w same why
   not_invoked (uninvoked.Delayed u) w same why = away (answered.Delayed u) w same why
   not_invoked uninvoked.NoNumber w same why = away answered.NoNumber w same why

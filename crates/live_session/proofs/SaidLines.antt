@@ -47,19 +47,19 @@ one_line (b ∷ []) some e = line_on b [] (first_of (is_line_byte b) e) ∙ ap (
     first_of : (x : Bool) → (x && true) ≡ true → x ≡ true
     first_of true e = refl
     first_of false e = e
-one_line (b ∷ c ∷ cs) some e = go (is_line_byte b) refl e
+one_line (b ∷ c ∷ cs) some e = go (λ k. one_line (c ∷ cs) (omega arith) k) (is_line_byte b) refl e
   where
-    go : (x : Bool) → is_line_byte b ≡ x → (x && list_all is_line_byte (c ∷ cs)) ≡ true → lines (b ∷ c ∷ cs) ≡ (b ∷ c ∷ cs) ∷ []
-    go true is e = line_on b (c ∷ cs) is ∙ ap (attach b) (one_line (c ∷ cs) (omega arith) e)
-    go false is e = absurd (cc)
+    go : (list_all is_line_byte (c ∷ cs) ≡ true → lines (c ∷ cs) ≡ (c ∷ cs) ∷ []) → (x : Bool) → is_line_byte b ≡ x → (x && list_all is_line_byte (c ∷ cs)) ≡ true → lines (b ∷ c ∷ cs) ≡ (b ∷ c ∷ cs) ∷ []
+    go later true is e = line_on b (c ∷ cs) is ∙ ap (attach b) (later e)
+    go later false is e = absurd (cc)
 
 line_append : (xs ys : Text) → list_all is_line_byte xs ≡ true → list_all is_line_byte ys ≡ true → list_all is_line_byte (xs ++ ys) ≡ true
 line_append [] ys a b = b
-line_append (x ∷ xs) ys a b = go (is_line_byte x) refl a
+line_append (x ∷ xs) ys a b = go (λ k. line_append xs ys k b) (is_line_byte x) refl a
   where
-    go : (t : Bool) → is_line_byte x ≡ t → (t && list_all is_line_byte xs) ≡ true → list_all is_line_byte (x ∷ xs ++ ys) ≡ true
-    go true is e = ap (λ (t : Bool). t && list_all is_line_byte (xs ++ ys)) is ∙ line_append xs ys e b
-    go false is e = absurd (cc)
+    go : (list_all is_line_byte xs ≡ true → list_all is_line_byte (xs ++ ys) ≡ true) → (t : Bool) → is_line_byte x ≡ t → (t && list_all is_line_byte xs) ≡ true → list_all is_line_byte (x ∷ xs ++ ys) ≡ true
+    go later true is e = ap (λ (t : Bool). t && list_all is_line_byte (xs ++ ys)) is ∙ later e
+    go later false is e = absurd (cc)
 
 after_line : (ws : List Text) → AllByRecursion IsWord ws → list_all is_line_byte (after_spaces ws) ≡ true
 after_line [] all = refl
@@ -158,13 +158,14 @@ one_place f keeps i j x y e g same =
 
 first_named : (hs : List Handler) (h n : ℕ) (x : Handler) → slice_get hs h ≡ Some x → x.name ≡ n → ((j : ℕ) (y : Handler) → slice_get hs j ≡ Some y → y.name ≡ n → j ≡ h) → position_or_len (named n) hs ≡ h
 first_named [] h n x at is only = absurd (cc)
-first_named (y ∷ hs) h n x at is only = go (y.name == n) refl h at only
+first_named (y ∷ hs) h n x at is only = go (λ k q more. first_named hs k n x q is more) (y.name == n) refl h at only
   where
-    go : (b : Bool) → (y.name == n) ≡ b → (h : ℕ) → slice_get (y ∷ hs) h ≡ Some x → ((j : ℕ) (z : Handler) → slice_get (y ∷ hs) j ≡ Some z → z.name ≡ n → j ≡ h) → position_or_len (named n) (y ∷ hs) ≡ h
-    go true e h at only = ap (λ (b : Bool). cond (not b) (1 + position_or_len (named n) hs) 0) e ∙ only 0 y refl (grind (arith, nat_tests, e))
-    go false e zero at only = absurd (let same : y ≡ x = cc in let named_so : y.name ≡ n = ap (λ (z : Handler). z.name) same ∙ is in grind (arith, nat_tests, e, named_so))
-    go false e (suc h) at only =
-        let rest : position_or_len (named n) hs ≡ h = first_named hs h n x at is (λ j z g q. omega (arith, only (suc j) z g q)) in
+    go : ((k : ℕ) → slice_get hs k ≡ Some x → ((j : ℕ) (z : Handler) → slice_get hs j ≡ Some z → z.name ≡ n → j ≡ k) → position_or_len (named n) hs ≡ k)
+        → (b : Bool) → (y.name == n) ≡ b → (h : ℕ) → slice_get (y ∷ hs) h ≡ Some x → ((j : ℕ) (z : Handler) → slice_get (y ∷ hs) j ≡ Some z → z.name ≡ n → j ≡ h) → position_or_len (named n) (y ∷ hs) ≡ h
+    go later true e h at only = ap (λ (b : Bool). cond (not b) (1 + position_or_len (named n) hs) 0) e ∙ only 0 y refl (grind (arith, nat_tests, e))
+    go later false e zero at only = absurd (let same : y ≡ x = cc in let named_so : y.name ≡ n = ap (λ (z : Handler). z.name) same ∙ is in grind (arith, nat_tests, e, named_so))
+    go later false e (suc h) at only =
+        let rest : position_or_len (named n) hs ≡ h = later h at (λ j z g q. omega (arith, only (suc j) z g q)) in
         ap (λ (b : Bool). cond (not b) (1 + position_or_len (named n) hs) 0) e ∙ omega (arith, rest)
 
 known_at : (m : ℕ) (hs : List Handler) (h : ℕ) (x : Handler) → AllByRecursion (λ (h : Handler). h.name < m) hs → slice_get hs h ≡ Some x → x.name < m

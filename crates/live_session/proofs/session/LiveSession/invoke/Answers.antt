@@ -1,4 +1,4 @@
-use Rattle.std.proofs.Common.{◌≡◌, ◌∷◌, ◌++◌, List, [], Err, Ok, vec_capacity, sym, ◌∙◌, ap, subst}
+use Rattle.std.proofs.Common.{◌≡◌, ◌∷◌, ◌++◌, List, [], Err, Ok, vec_capacity, refl, sym, ◌∙◌, ap, subst}
 use Rattle.session_values.specs.Tables.{Tables}
 use Rattle.session_values.specs.declared.reply.Reply.{Reply}
 use Rattle.session_values.specs.declared.value.Value.{Value}
@@ -100,7 +100,7 @@ returns c =
     ap (with_history v new after k) c.invoked-self-inside.ensures ∙ ap (λ (l : Text). record v { names = new; tables = after; tickets = k; lines = v.lines ++ l ∷ []; replies = v.replies ++ reply ∷ [] }) same_line in
     let w : LiveView = onward v live most line name ws is_line new vals c.args.handler reply after one k acts c.passed.ensures.ascending in
     let done = line_served v live most line name ws is_line new vals c.args.handler reply after one k acts c.passed.ensures.ascending in
-    let answer : InvokeAnswered v c.args.handler args (Ok reply) w = (as_line v live c.args.handler args said words_held answered.Served (reply_line new reply) w done, done.replies_are) in
+    let answer : InvokeAnswered v c.args.handler args (Ok reply) w = (as_line v live c.args.handler args said words_held answered.Served (reply_line new reply) w done, refl) in
     let Q : LiveView → Type 0 = λ x. InvokeAnswered v c.args.handler args (Ok reply) x in
     let P : LiveView → Type 0 = λ x. InvokeAnswered x c.args.handler args (Ok reply) (with_history v new after k c.invoked-self-inside.result) in
     subst P c.self.view_is (subst Q (sym is) answer)
