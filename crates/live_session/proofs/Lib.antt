@@ -1,4 +1,5 @@
 pub mod Alone
+pub mod ArgumentLemmas
 pub mod Batching
 pub mod Crossing
 pub mod DrivenActs
@@ -14,10 +15,12 @@ pub mod OneFile
 pub mod OneRow
 pub mod OpenLemmas
 pub mod Reading
+pub mod Received
 pub mod Renewed
 pub mod Room
 pub mod Runs
 pub mod Said
+pub mod SaidLines
 pub mod Seeds
 pub mod Steps
 pub mod Whole

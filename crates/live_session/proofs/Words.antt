@@ -55,7 +55,7 @@ pub all_stop : (w : Text) (ws : List Text) → is_value w ≡ false → list_all
 all_stop w ws e = ap (λ (b : Bool). (b && list_all is_value ws)) e
 
 -- names that begin with one name more are others
-longer : (names : List Text) (w : Text) (all : List Text) → Begins (names ++ w ∷ []) all → all ≢ names
+pub longer : (names : List Text) (w : Text) (all : List Text) → Begins (names ++ w ∷ []) all → all ≢ names
 longer names w all b e =
     let one = length-append names (w ∷ []) in
     let more = length-append (names ++ w ∷ []) b.0 in

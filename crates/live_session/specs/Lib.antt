@@ -1,10 +1,12 @@
 pub mod Accepting
 pub mod Answers
+pub mod ArgumentWords
 pub mod Batches
 pub mod Driven
 pub mod Dumps
 pub mod Entries
 pub mod Held
+pub mod Invoking
 pub mod Live
 pub mod Moving
 pub mod Naming

@@ -26,7 +26,7 @@ use shard_tables::Part;
 use text_lines::Line;
 
 /// The number of the handler with this name.
-fn handler(checked: &Checked, names: &Names, name: &str) -> Option<u32>
+pub(crate) fn handler(checked: &Checked, names: &Names, name: &str) -> Option<u32>
     requires { AreKnown names.now checked.now }
     ensures { IsHandler names.now checked.now name.now result }
 {
@@ -37,7 +37,7 @@ fn handler(checked: &Checked, names: &Names, name: &str) -> Option<u32>
 }
 
 /// Takes back the names behind so many.
-fn forget(names: &mut Names, count: u32)
+pub(crate) fn forget(names: &mut Names, count: u32)
     ensures { names.new ≡ take count names.old }
 {
     names.truncate(count);

@@ -57,3 +57,35 @@ pub enum NameError {
     #[error("no memory")]
     NoMemory,
 }
+
+/// Why a request of a handler by its number isn't served. Nothing changes.
+#[derive(Clone, Copy, Debug, PartialEq, Eq, Error)]
+pub enum InvokeError {
+    /// There is no handler of this number.
+    #[error("unknown handler")]
+    UnknownHandler,
+    /// The arguments are not as many as the handler's parameters.
+    #[error("wrong number of arguments")]
+    Arity,
+    /// The text of an argument is no symbol's, and no argument before it is wrong.
+    #[error("a text that is no symbol")]
+    NoSymbol,
+    /// The number of an argument is not that of a symbol's name, and no argument before it is wrong.
+    #[error("a number of no name")]
+    NoName,
+    /// With its symbols there would be more names than the session may have.
+    #[error("too many names")]
+    TooManyNames,
+    /// What its handler declares doesn't commute with what an open ticket has declared.
+    #[error("delayed by ticket {older}")]
+    Delayed {
+        /// The least such ticket.
+        older: u64,
+    },
+    /// All ticket numbers below 2^64 - 1 are used up.
+    #[error("no number left")]
+    NoNumber,
+    /// Memory ran out.
+    #[error("no memory")]
+    NoMemory,
+}

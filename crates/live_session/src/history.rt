@@ -6,8 +6,10 @@ ghost use Rattle.session_values.specs.Opening.{Pair};
 ghost use Rattle.live_session.specs.Held.{lists_in};
 ghost use Rattle.live_session.specs.Moving.{moved_entries, place_in};
 
+use crate::arguments::Arguments;
 use crate::renewing::Kept;
 use crate::tables::LiveTables;
+use declaration_insertion::Program;
 use session_values::{Names, Opening, Reply};
 use std::marker::Model;
 
@@ -33,6 +35,8 @@ impl Model for History {
 unsafe impl Send for History {}
 
 impl History {
+    ghost use Rattle.live_session.specs.Invoking.{line_of};
+
     /// A session was opened with these names and entries.
     pub(crate) fn opened(_names: &Names, _opening: &Opening) -> History
         ensures { result ≡ record {
@@ -67,6 +71,27 @@ impl History {
           first_names = self.now.first_names;
           driven = self.now.driven;
           lines = self.now.lines ++ line.now.now ∷ [];
+          replies = self.now.replies ++ reply.now ∷ [];
+        } }
+    {
+        History {}
+    }
+
+    /// The request of a handler with these arguments was served, with this reply.
+    pub(crate) fn invoked(
+        &self,
+        _program: &Program,
+        _names: &Names,
+        _h: &u32,
+        _args: &Arguments,
+        reply: &Reply,
+    ) -> History
+        ensures { result ≡ record {
+          opened = self.now.opened;
+          first_names = self.now.first_names;
+          driven = self.now.driven;
+          lines = self.now.lines
+              ++ line_of _names.now _program.now.file _h.now _args.now.values.items ∷ [];
           replies = self.now.replies ++ reply.now ∷ [];
         } }
     {

@@ -9,6 +9,8 @@ mod calls;
 #[cfg(test)]
 mod driven;
 #[cfg(test)]
+mod invoked;
+#[cfg(test)]
 mod living;
 #[cfg(test)]
 mod many;
