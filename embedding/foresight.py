@@ -33,6 +33,7 @@ STATUSES = {
     15: "too many names",
     16: "the text isn't UTF-8",
     17: "no refusal of this text",
+    19: "a ticket is open",
     20: "a ticket is in the way",
     21: "the ticket hasn't declared this operation",
     22: "no such table, or it has no such operation, or a symbol that is no name of the session",
@@ -76,7 +77,8 @@ class _Served(c.Structure):
 
 class _Counts(c.Structure):
     _fields_ = [("names", c.c_uint32), ("most_names", c.c_uint32), ("tables", c.c_size_t),
-                ("begun", c.c_uint64), ("open", c.c_size_t), ("oldest", c.c_uint64)]
+                ("begun", c.c_uint64), ("open", c.c_size_t), ("oldest", c.c_uint64),
+                ("generation", c.c_uint64)]
 
 
 class _Value(c.Structure):
@@ -95,7 +97,7 @@ def _loaded():
     library = c.CDLL(name)
     for call in ("session_open", "session_serve", "session_dump", "session_close", "session_begin",
                  "session_call", "session_narrow", "session_end", "session_name", "session_text",
-                 "session_counts", "session_size", "session_declared", "explain", "tables_open",
+                 "session_counts", "session_size", "session_renew", "session_declared", "explain", "tables_open",
                  "ticket_begin", "ticket_call", "ticket_narrow", "ticket_end", "tables_close"):
         getattr(library, f"foresight_{call}").restype = c.c_uint8
     library.foresight_version.restype = c.c_uint32
@@ -275,11 +277,17 @@ class Session(_Kept):
 
     def counts(self):
         """What the session holds: its `names` and the `most_names` that there may be, its `tables`,
-        the tickets that have `begun`, those that are `open`, and the `oldest` of these or None."""
+        the tickets that have `begun`, those that are `open`, the `oldest` of these or None, and the
+        `generation`: how often the names were renewed."""
         counts = _Counts()
         self._do(_library.foresight_session_counts, c.byref(counts))
         held = {name: getattr(counts, name) for name, _ in _Counts._fields_}
         return held if held["open"] else {**held, "oldest": None}
+
+    def renew(self):
+        """Lets the names go that neither the handlers nor a table holds. The numbers of the others
+        change, so names that `name` and `call` gave are to be asked for anew."""
+        self._do(_library.foresight_session_renew)
 
     def size(self, table):
         """How many entries the table of this number has."""

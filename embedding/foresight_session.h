@@ -49,6 +49,8 @@ enum foresight_session_status {
     /* The lines, or the text of a name, aren't UTF-8. Nothing was done, not even for lines that
      * are: a program that wants those served gives lines one by one. */
     FORESIGHT_SESSION_NOT_TEXT = 16,
+    /* A ticket is open, so names can't be renewed. Nothing was done. */
+    FORESIGHT_SESSION_OPEN = 19,
     /* A ticket delays the call or the line: it may still call something that doesn't commute with
      * the operation, or with something that the line's handler may call. Nothing was done of the
      * call, or of the line; try again after that ticket, or another one that delays it, has
@@ -172,6 +174,14 @@ uint8_t foresight_session_name(struct foresight_session *session, const uint8_t 
 uint8_t foresight_session_text(struct foresight_session *session, uint32_t number, uint8_t *out,
     size_t out_size, size_t *size);
 
+/* Renews the names: those of the file and those that a table holds stay, as keys, members or what
+ * keys are bound to; all others go, as if no request had ever brought them. Tables stay as they are,
+ * by text, and a dump writes the same. The numbers of names change, but for those of the file: ask
+ * for them anew, by `name`. It takes as long as opening tables of this size, and as much memory again
+ * meanwhile. 19: a ticket is open. 3: nothing was done. So a program that is answered 15 ends its
+ * tickets, renews, and gives the line again. */
+uint8_t foresight_session_renew(struct foresight_session *session);
+
 /* ---- What a session holds. These calls change nothing. */
 
 struct foresight_counts {
@@ -185,6 +195,8 @@ struct foresight_counts {
     /* Tickets that are open, and the lowest number of one; 0 if none is open. */
     size_t open;
     uint64_t oldest;
+    /* How often the names were renewed. The number of a name is good while this stays the same. */
+    uint64_t generation;
 };
 
 /* Writes what the session holds to `counts`. */

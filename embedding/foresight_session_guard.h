@@ -120,6 +120,11 @@ static inline uint8_t foresight_guard_declared(struct foresight_session *session
         size);
 }
 
+static inline uint8_t foresight_guard_renew(struct foresight_session *session) {
+    if (session == NULL) return FORESIGHT_SESSION_NULL;
+    return foresight_session_renew(session);
+}
+
 static inline uint8_t foresight_guard_close(struct foresight_session *session) {
     if (session == NULL) return FORESIGHT_SESSION_NULL;
     return foresight_session_close(session);

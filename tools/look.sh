@@ -95,7 +95,7 @@ fn a_served() -> Served {
 }
 
 fn some_counts() -> Counts {
-    Counts { names: 0, most_names: 0, tables: 0, begun: 0, open: 0, oldest: 0 }
+    Counts { names: 0, most_names: 0, tables: 0, begun: 0, open: 0, oldest: 0, generation: 0 }
 }
 
 fn main(rt: HostRuntime) -> ExitCode {

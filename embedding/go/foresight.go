@@ -182,6 +182,8 @@ type Counts struct {
 	Tables           int
 	// Tickets that have begun: each request that was served is one.
 	Begun uint64
+	// How often the names were renewed.
+	Generation uint64
 }
 
 // Counts returns what the session holds.
@@ -193,7 +195,17 @@ func (s *Session) Counts() (Counts, error) {
 		return Counts{}, failed(status, nil)
 	}
 	return Counts{uint32(counts.names), uint32(counts.most_names), int(counts.tables),
-		uint64(counts.begun)}, nil
+		uint64(counts.begun), uint64(counts.generation)}, nil
+}
+
+// Renew lets the names go that neither the handlers nor a table holds.
+func (s *Session) Renew() error {
+	s.mu.Lock()
+	defer s.mu.Unlock()
+	if status := C.foresight_session_renew(&s.handle); status != 0 {
+		return failed(status, nil)
+	}
+	return nil
 }
 
 // Size returns how many entries the table of this number has.

@@ -81,6 +81,12 @@ func TestRefuses(t *testing.T) {
 	if err != nil || counts.Names != 4 || counts.MostNames != 6 || counts.Tables != 1 || counts.Begun < 8000 {
 		t.Fatal(counts, err)
 	}
+	if err := s.Renew(); err != nil {
+		t.Fatal(err)
+	}
+	if counts, err := s.Counts(); err != nil || counts.Generation != 1 {
+		t.Fatal(counts, err)
+	}
 	if size, err := s.Size(0); err != nil || size != 8001 {
 		t.Fatal(size, err)
 	}

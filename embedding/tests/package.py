@@ -183,14 +183,14 @@ def try_counts():
     text = "map m; set s; handler f(k) { put(m, k, 1); mark(s, 1); reply k; }\n%%\n"
     with foresight.Session(text, most_names=7) as session:
         assert session.counts() == {"names": 4, "most_names": 7, "tables": 2, "begun": 0, "open": 0,
-                                    "oldest": None}, session.counts()
+                                    "oldest": None, "generation": 0}, session.counts()
         session.serve(["f a", "f 1"])
         symbols = [("get", 0, session.name("a")), ("put", 0, any, 7), ("count", 1)]
         ticket = session.begin(symbols)
         assert session.declared(ticket) == symbols, session.declared(ticket)
         session.begin([])
         assert session.counts() == {"names": 5, "most_names": 7, "tables": 2, "begun": 4, "open": 2,
-                                    "oldest": ticket}, session.counts()
+                                    "oldest": ticket, "generation": 0}, session.counts()
         assert [session.size(table) for table in (0, 1)] == [2, 1]
         refused(lambda: session.size(2), 22, MISFIT)
         session.end(ticket)
@@ -199,9 +199,27 @@ def try_counts():
     refused(session.counts, 11, "status 11: the object is closed")
 
 
+def try_renewal():
+    """Names that only requests brought come back."""
+    text = "map m; handler put(k) { put(m, k, 1); reply k; } handler cut(k) { del(m, k); reply k; }\n%%\n"
+    with foresight.Session(text, most_names=5) as session:
+        session.serve(["put a"])
+        refused(lambda: session.serve(["put b"]), 15, "too many names")
+        ticket = session.begin([])
+        refused(session.renew, 19, "status 19: a ticket is open")
+        session.end(ticket)
+        for word in "bcdef":
+            session.serve([f"cut {chr(ord(word) - 1)}"])
+            session.renew()
+            session.serve([f"put {word}"])
+        assert session.tables() == "%% tables\nm f 1\n", session.tables()
+        assert session.counts()["generation"] == 5
+
+
 try_session()
 try_refusals()
 try_tickets()
 try_tickets_beside_requests()
 try_counts()
+try_renewal()
 print("package: foresight.py, as it should be")

@@ -356,7 +356,7 @@ static void want_counts(void) {
         { FORESIGHT_COUNT, 1, { FORESIGHT_NIL, 0, 0 }, { FORESIGHT_NIL, 0, 0 } },
     };
     struct foresight_operation told_of[4];
-    struct foresight_counts counts = { 1, 2, 3, 4, 5, 6 };
+    struct foresight_counts counts = { 1, 2, 3, 4, 5, 6, 7 };
     uint64_t first = 0, second = 0;
     uint32_t entries = 99;
     size_t size = 99;
@@ -411,6 +411,67 @@ static void want_counts(void) {
     want(heap_blocks() == 0, "memory is kept after close");
 }
 
+/* ---- names that come back */
+
+/* Words that only requests brought go, those that a table holds stay, and the tables are the same. */
+static void want_renewed(void) {
+    static const char some[] = "map m;\nhandler put(k, v) { put(m, k, v); reply k; }\n"
+        "handler cut(k) { del(m, k); reply k; }\nhandler see(k) { let v = get(m, k); reply v; }\n%%\n";
+    static const struct foresight_operation nothing = { FORESIGHT_GET, 0, { 0, 0, 0 }, { 0, 0, 0 } };
+    struct foresight_counts counts;
+    uint64_t ticket = 0;
+    uint32_t of_ann = 0, of_bob = 0;
+    static uint8_t before[ROOM];
+    size_t length = 0;
+    handle session = none;
+    WANT(11, foresight_session_renew(&session));
+    WANT(0, open_with(&session, some, 10));
+    WANT(0, serve(&session, "put ann bob\nput eve 1\n"));
+    /* Its six names and three words: one more has room. */
+    WANT(0, serve(&session, "cut eve\nsee x\n"));
+    WANT(15, serve(&session, "see y\n"));
+    WANT(0, foresight_session_begin(&session, &nothing, 0, &ticket));
+    WANT(19, foresight_session_renew(&session));
+    WANT(0, foresight_session_end(&session, ticket));
+    WANT(0, foresight_session_dump(&session, out, ROOM, why, FORESIGHT_MESSAGE_ROOM, &told));
+    length = told.written;
+    memcpy(before, out, length);
+    WANT(0, foresight_session_renew(&session));
+    WANT(0, foresight_session_counts(&session, &counts));
+    want(counts.names == 8 && counts.generation == 1 && counts.begun == 5, "names after a renewal");
+    WANT(0, foresight_session_dump(&session, out, ROOM, why, FORESIGHT_MESSAGE_ROOM, &told));
+    want(told.written == length && memcmp(before, out, length) == 0, "other tables after a renewal");
+    WANT(0, foresight_session_name(&session, (const uint8_t *)"ann", 3, &of_ann));
+    WANT(0, foresight_session_name(&session, (const uint8_t *)"bob", 3, &of_bob));
+    want(of_ann != of_bob && of_ann < 8 && of_bob < 8, "a name that is held was lost");
+    WANT(0, serve(&session, "see ann\nsee y\n"));
+    want_served(14, 2, "bob\nnil\n", "");
+    WANT(23, foresight_guard_renew(NULL));
+    WANT(0, foresight_session_close(&session));
+    want(heap_blocks() == 0, "memory is kept after close");
+}
+
+/* A renewal with each of its requests for memory refused in turn changes nothing. */
+static void want_refused_renewals(void) {
+    handle session = none;
+    struct foresight_counts counts;
+    size_t number = 1;
+    WANT(0, open_with(&session, handlers, 10));
+    WANT(0, serve(&session, "f a\nf b\n"));
+    for (;; number++) {
+        heap_refuse(number, false);
+        int status = foresight_session_renew(&session);
+        heap_refuse(0, false);
+        WANT(0, foresight_session_counts(&session, &counts));
+        if (status == 0) break;
+        want(status == 3 && counts.generation == 0 && counts.names == NAMES + 1, "a refused renewal");
+        if (number > 1000) break;
+    }
+    want(number > 3 && counts.generation == 1, "a renewal takes no memory");
+    WANT(0, foresight_session_close(&session));
+    want(heap_blocks() == 0, "memory is kept after close");
+}
+
 int main(void) {
     want(foresight_version() == FORESIGHT_VERSION_NUMBER, "header and archive are of two versions");
     want_lines();
@@ -421,6 +482,8 @@ int main(void) {
     want_null();
     want_tickets();
     want_counts();
+    want_renewed();
+    want_refused_renewals();
     want(!is_refused(0), "memory is wanting");
     size_t requests = 0;
     while (is_refused(requests + 1)) requests++;

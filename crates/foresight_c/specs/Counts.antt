@@ -18,7 +18,7 @@ abbrev pub IsOldestTold : List OpenTicket → ℕ → Type 0
 IsOldestTold os t = ((os ≡ []) × (t ≡ 0)) ⊎ IsOldestOpen os t
 
 -- what a session holds: its names and how many there may be, its tables, the tickets that have begun,
--- those that are open, and the oldest of them
+-- those that are open, and the oldest of them; and how often its names were renewed
 pub record AreCounts (v : LiveView) (c : Counts) : Type 0 where
   pub names : c.names ≡ length v.names
   pub most_names : c.most_names ≡ v.most_names
@@ -26,6 +26,7 @@ pub record AreCounts (v : LiveView) (c : Counts) : Type 0 where
   pub begun : c.begun ≡ v.tickets.next
   pub open_tickets : c.open ≡ length v.tickets.tickets
   pub oldest : IsOldestTold v.tickets.tickets c.oldest
+  pub generation : c.generation ≡ v.generation
 
 -- how many entries the table of this number has, if there is one
 abbrev pub SizeAt : LiveView → ℕ → ℕ → ℕ → ℕ → Type 0

@@ -8,6 +8,7 @@ pub mod Handles
 pub mod Held
 pub mod Numbers
 pub mod Reading
+pub mod Renewals
 pub mod SessionCalls
 pub mod SessionMessages
 pub mod SessionNames

@@ -45,6 +45,10 @@ not_text = 16
 abbrev pub unexplained : ℕ
 unexplained = 17
 
+-- a ticket is open
+abbrev pub open_tickets : ℕ
+open_tickets = 19
+
 -- an open ticket is in the way
 abbrev pub delayed : ℕ
 delayed = 20

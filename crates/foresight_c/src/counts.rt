@@ -16,4 +16,6 @@ pub struct Counts {
     pub open: usize,
     /// The lowest number of an open ticket, and 0 where none is open.
     pub oldest: u64,
+    /// How often its names were renewed, each time with other numbers.
+    pub generation: u64,
 }

@@ -16,6 +16,7 @@ mod fronts;
 mod handing;
 mod handle;
 mod reading;
+mod renewals;
 mod served;
 mod session_count_exports;
 mod session_counts;

@@ -33,6 +33,7 @@ fn counts_of(session: &LiveSession) -> Counts
         begun: session.tickets_begun(),
         open: session.tickets_open(),
         oldest: oldest_of(session),
+        generation: session.generation(),
     }
 }
 

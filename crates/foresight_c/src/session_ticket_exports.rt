@@ -3,6 +3,7 @@
 
 ghost use Rattle.foresight_c.specs.Handles.{OnCalled, OnDesk, OnTold};
 ghost use Rattle.foresight_c.specs.SessionNames.{NameOn, OnText};
+ghost use Rattle.foresight_c.specs.Renewals.{RenewOn};
 ghost use Rattle.foresight_c.specs.Tickets.{BeginOn, CallOn, EndOn, NarrowOn};
 
 use crate::handle::{Handle, taken};
@@ -127,6 +128,22 @@ pub extern "C" fn foresight_session_text(
     match taken(handle, alloc) {
         Some(desk) => {
             let number = desk.text(name, out, size);
+            *handle = Handle::of(desk);
+            number
+        }
+        None => 11,
+    }
+}
+
+/// Renews the names: those that nobody holds any more go.
+#[unsafe(no_mangle)]
+pub extern "C" fn foresight_session_renew(alloc: Global, handle: &mut Handle) -> u8
+    ensures { OnDesk handle.old.held.value handle.new.held.value result
+        (λ d e. RenewOn d e result) }
+{
+    match taken(handle, alloc) {
+        Some(mut desk) => {
+            let number = desk.renew();
             *handle = Handle::of(desk);
             number
         }
