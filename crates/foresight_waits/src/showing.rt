@@ -23,12 +23,7 @@ pub(crate) fn most(subject: Subject) -> usize
 }
 
 /// The text that tells of an input in this form.
-fn text_of(
-    alloc: Global,
-    subject: Subject,
-    form: Form,
-    input: &[u8],
-) -> Result<Vec<u8>, LoadError>
+fn text_of(alloc: Global, subject: Subject, form: Form, input: &[u8]) -> Result<Vec<u8>, LoadError>
     requires { length input.now ≤ spec.most subject }
     ensures told { IfOk result (λ text. spec.IsTextOf subject form input.now text.items) }
     ensures refused { IfErr result (spec.IsReasonOf subject input.now) }

@@ -4,7 +4,7 @@ use Rattle.foresight_waits.proofs.top.tell_of_file.Goals as goal
 
 pub returns-in-Open : goal.returns-in-Open
 returns-in-Open g c =
-    tells_opened c.args.subject c.args.form g.F.Source.left g.F.Source.faults c.args.files.now c.open.new.self c.tell_of.new.files
+    tells_opened c.args.subject c.args.form g.F.Source.left g.F.Source.faults c.args.files.now c.open.new.self c.tell_of.new.source
     (change g.O.Sink.held g.O.Sink.faults c.args.out.now c.tell_of.new.out) c.tell_of.result (g.F.OpensFiles.bytes_of c.args.files.now c.args.name.now)
     c.in-Open.ensures.counts c.in-Open.ensures.gives c.tell_of.ensures.tells
 
