@@ -1,24 +1,23 @@
 -- Arguments that are given without a line, and the words that say them.
-use Rattle.std.proofs.Common.{◌≡◌, ◌≢◌, ℕ, suc, zero, ◌+◌, ◌<◌, ◌≤◌, Bool, true, false, if◌then◌else◌, List, [], ◌∷◌, ◌++◌, length, map, drop, codes, Option, Some, None, slice_get, refl, sym, ◌∙◌, ap, subst, arith, length-append, ℤ}
+use Rattle.std.proofs.Common.{◌≡◌, ◌≢◌, ℕ, suc, zero, ◌+◌, ◌≤◌, Bool, true, false, if◌then◌else◌, List, [], ◌∷◌, ◌++◌, length, drop, codes, Option, Some, None, slice_get, refl, sym, ◌∙◌, ap, subst, ℤ}
 use Rattle.std.proofs.lemmas.List.{drop_all}
 use Rattle.std.proofs.lemmas.Option.{slice_get_past}
 use Rattle.std.specs.Fmt.{signed_decimal}
-use Rattle.std.specs.List.{AllByRecursion, list_any, position}
+use Rattle.std.specs.List.{AllByRecursion, position}
 use Rattle.std.specs.Option.{option_or, unwrap_or}
 use Rattle.std.specs.Str.{bytes_eq}
-use Rattle.session_values.specs.Names.{AreDistinct, Begins, place_of, with_text}
-use Rattle.session_values.specs.ReplyText.{value_text}
+use Rattle.session_values.specs.Names.{AreDistinct, Begins, place_of}
 use Rattle.session_values.specs.Values.{IsValue}
 use Rattle.session_values.specs.declared.value.Value.{Value}
 use Rattle.session_values.specs.declared.value.Value.TheVariants.{Nil, Num, Sym}
-use Rattle.session_values.proofs.Named.{begins_then, front_kept}
-use Rattle.session_values.proofs.NamesLemmas.{known_at, no_choice, place_is, stands_at, with_known, with_new}
+use Rattle.session_values.proofs.Named.{front_kept}
+use Rattle.session_values.proofs.NamesLemmas.{known_at, no_choice, place_is, with_known, with_new}
 use Rattle.session_values.proofs.Options.{drop_step}
 use Rattle.text_lines.specs.Text.{Text}
-use Rattle.text_lines.specs.Values.{is_symbol, placed, placed_all, value_of, values_of}
+use Rattle.text_lines.specs.Values.{is_symbol, placed, placed_all}
 use Rattle.text_lines.specs.Words.{IsWord}
 use Rattle.text_lines.proofs.NumbersBack.{numeral}
-use Rattle.text_lines.proofs.ValueLemmas.{Behind, none_placed, placed_all_begins, placed_all_step, placed_begins, placed_by, value_by}
+use Rattle.text_lines.proofs.ValueLemmas.{Behind, none_placed, placed_all_begins, placed_all_step, placed_by, value_by}
 use Rattle.text_lines.proofs.ValuesBack.{nil_value, number_value}
 use Rattle.text_lines.proofs.WordsBack.{nil_word, number_word, symbol_word}
 use Rattle.live_session.specs.declared.answers.InvokeError.{InvokeError}
@@ -26,7 +25,7 @@ use Rattle.live_session.specs.declared.answers.InvokeError.TheVariants as uninvo
 use Rattle.live_session.specs.declared.argument.Argument.{Argument}
 use Rattle.live_session.specs.declared.argument.Argument.TheVariants as argument
 use Rattle.live_session.specs.ArgumentWords.{IsHeld, Known, argument_fault, first_fault, name_at, word_of, words_of}
-use Rattle.live_session.proofs.Words.{absent, longer, symbol_found}
+use Rattle.live_session.proofs.Words.{absent, longer}
 
 -- ---- texts
 

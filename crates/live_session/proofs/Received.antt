@@ -1,5 +1,5 @@
 -- Requests that are given without a line: they are accepted as their rows are, and why others aren't.
-use Rattle.std.proofs.Common.{◌≡◌, ◌≢◌, ℕ, suc, ◌<◌, ◌≤◌, Bool, true, false, ◌&&◌, Option, Result, Ok, Err, OnOk, if◌then◌else◌, List, [], ◌∷◌, ◌++◌, length, map, Some, None, slice_get, refl, sym, ◌∙◌, ap, subst, arith}
+use Rattle.std.proofs.Common.{◌≡◌, ◌≢◌, ℕ, ◌<◌, ◌≤◌, Bool, true, false, ◌&&◌, Option, Result, Ok, Err, OnOk, if◌then◌else◌, List, [], ◌∷◌, ◌++◌, length, map, Some, None, slice_get, refl, sym, ◌∙◌, ap, subst, arith}
 use Rattle.std.specs.List.{AllByRecursion, list_all, list_any}
 use Rattle.std.specs.Str.{bytes_eq}
 use Rattle.std.specs.Option.{is_some, option_or, unwrap_or}
@@ -7,7 +7,7 @@ use Rattle.session_values.specs.Limits.{max_variables}
 use Rattle.session_values.specs.Names.{AreDistinct, Begins, place_of, with_text}
 use Rattle.session_values.specs.ReplyText.{value_text}
 use Rattle.session_values.specs.declared.value.Value.{Value}
-use Rattle.session_values.specs.declared.value.Value.TheVariants.{Nil, Sym}
+use Rattle.session_values.specs.declared.value.Value.TheVariants.{Nil}
 use Rattle.session_values.proofs.Named.{begins_same, begins_then, front_kept}
 use Rattle.session_values.proofs.NamesLemmas.{known_at, slice_get_last, stands_at, with_known, with_new}
 use Rattle.handler_check.specs.File.{File}

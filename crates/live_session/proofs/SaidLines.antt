@@ -1,9 +1,9 @@
 -- The line that says a request has its words, and is one line.
-use Rattle.std.proofs.Common.{◌≡◌, ◌≢◌, ℕ, suc, zero, ◌+◌, ◌*◌, ◌<◌, ◌≤◌, ◌==◌, nat_lt, Bool, true, false, not, ◌&&◌, cond, inl, inr, List, [], ◌∷◌, ◌++◌, length, map, codes, Option, Some, None, slice_get, slice_index, refl, sym, ◌∙◌, ap, subst, arith, length-append, ℤ, pos, negsuc, ◌^◌}
+use Rattle.std.proofs.Common.{◌≡◌, ℕ, suc, zero, ◌+◌, ◌*◌, ◌<◌, ◌≤◌, ◌==◌, nat_lt, Bool, true, false, not, ◌&&◌, cond, inl, inr, List, [], ◌∷◌, ◌++◌, length, map, Option, Some, None, slice_get, slice_index, refl, sym, ◌∙◌, ap, subst, arith, length-append, ℤ, pos, negsuc}
 use Rattle.std.proofs.lemmas.Bool.Decides.{nat_tests}
 use Rattle.std.proofs.lemmas.Fmt.{length-decimal-le}
 use Rattle.std.specs.Char.{is_ascii_alphabetic}
-use Rattle.std.specs.Fmt.{decimal, signed_decimal}
+use Rattle.std.specs.Fmt.{signed_decimal}
 use Rattle.std.specs.List.{AllByRecursion, flat_map, list_all, position_or_len}
 use Rattle.session_values.specs.Limits.{max_input, max_variables}
 use Rattle.session_values.specs.Names.{AreDistinct, Begins, place_of}
@@ -21,10 +21,9 @@ use Rattle.handler_check.specs.File.{File}
 use Rattle.handler_check.specs.declared.refusal.CheckRefusal.TheVariants.{Twice}
 use Rattle.handler_check.specs.FirstFault.{KeepsRules}
 use Rattle.handler_check.proofs.Meaning.{Fresh, fresh_text, one_number}
-use Rattle.text_lines.specs.Rows.{row_of}
 use Rattle.text_lines.specs.Text.{Text, attach, is_line_byte, is_word_byte, lines, words}
 use Rattle.text_lines.specs.Values.{is_symbol}
-use Rattle.text_lines.specs.Words.{IsWord, after_spaces, spaced}
+use Rattle.text_lines.specs.Words.{IsWord, after_spaces}
 use Rattle.text_lines.proofs.TextLemmas.{lines_nil}
 use Rattle.text_lines.proofs.WholeTexts.{line_on}
 use Rattle.text_lines.proofs.WordsBack.{words_back}
@@ -32,7 +31,6 @@ use Rattle.request_files.specs.Requests.{AreKnown, handler_of}
 use Rattle.live_session.specs.declared.argument.Argument.{Argument}
 use Rattle.live_session.specs.declared.argument.Argument.TheVariants as argument
 use Rattle.live_session.specs.declared.answers.Answered.{Answered}
-use Rattle.live_session.specs.declared.answers.InvokeError.{InvokeError}
 use Rattle.live_session.specs.Answers.{AnsweredBy, LinesAnswered, RowAnswered, TextAnswered, WordsAnswered}
 use Rattle.live_session.specs.ArgumentWords.{IsHeld, argument_fault, first_fault, name_at, word_of, words_of}
 use Rattle.live_session.specs.Invoking.{handler_name, line_given, name_of, row_given}

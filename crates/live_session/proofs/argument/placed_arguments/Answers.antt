@@ -1,9 +1,9 @@
-use Rattle.std.proofs.Common.{◌≡◌, ◌+◌, ◌∷◌, [], List, length, drop, slice_get, slice_index_or, None, Some, sym, ◌∙◌, ap, subst, arith, length-append, ℕ}
+use Rattle.std.proofs.Common.{◌≡◌, ◌+◌, ◌∷◌, [], List, length, drop, slice_index_or, Some, sym, ◌∙◌, ap, subst, arith, length-append, ℕ}
 use Rattle.std.proofs.lemmas.Option.{slice_get-get_or}
 use Rattle.session_values.specs.declared.value.Value.{Value}
 use Rattle.text_lines.specs.Text.{Text}
 use Rattle.text_lines.specs.Values.{placed, value_of}
-use Rattle.text_lines.proofs.ValueLemmas.{Behind, behind_start, behind_turn, behind_values, left_names}
+use Rattle.text_lines.proofs.ValueLemmas.{Behind, behind_turn, behind_values, left_names}
 use Rattle.live_session.specs.declared.argument.Argument.{Argument}
 use Rattle.live_session.specs.declared.argument.Argument.TheVariants as argument
 use Rattle.live_session.specs.ArgumentWords.{word_of, words_of}
