@@ -1,6 +1,6 @@
 -- What is shown of an input that was read.
 use Rattle.std.proofs.Common.{◌≡◌, ◌≢◌, ℕ, List, Option, inl, inr, refl, subst, sym}
-use Rattle.byte_ends.specs.Changes.{Change, Failed, IsUntouched, WroteAll, WrotePrefix, change}
+use Rattle.byte_ends.specs.Changes.{Change, Failed, WroteAll, WrotePrefix, change}
 use Rattle.serve_faults.specs.declared.status.Fault.{Fault}
 use Rattle.serve_faults.specs.declared.status.Status.{Status}
 use Rattle.serve_faults.specs.declared.status.Status.TheVariants.{Fine, Usage, NoMemory, ReadFault, WriteFault}

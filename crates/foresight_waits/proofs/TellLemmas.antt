@@ -1,5 +1,5 @@
 -- What is told of a source.
-use Rattle.std.proofs.Common.{◌≡◌, ◌≢◌, ◌<◌, ℕ, true, List, length, Option, Some, None, IfSome, inl, refl, sym, ap, ◌∙◌, subst}
+use Rattle.std.proofs.Common.{◌≡◌, ◌≢◌, ◌<◌, ℕ, true, List, length, Option, Some, None, IfSome, inl, refl, ◌∙◌, subst}
 use Rattle.byte_ends.specs.Ends.{IsAtEnd, IsRaised}
 use Rattle.byte_ends.specs.Changes.{Change, Failed, change}
 use Rattle.serve_faults.specs.Ways.{HasRead, StoppedAs, StopsAs}

@@ -1,7 +1,7 @@
 -- How a run ends: with which line and with which number.
 use Rattle.std.specs.Prelude.{◌≡◌, ◌⊎◌, ℕ, Bool, true, false, List, codes}
 use Rattle.byte_ends.specs.Changes.{Change, Failed, IsUntouched, WroteAll, WrotePrefix}
-use Rattle.serve_faults.specs.Message.{fault_line, message_of}
+use Rattle.serve_faults.specs.Message.{message_of}
 use Rattle.serve_faults.specs.declared.status.Fault.TheVariants.{TooLarge}
 use Rattle.serve_faults.specs.declared.status.Status.{Status}
 use Rattle.serve_faults.specs.declared.status.Status.TheVariants.{Fine, Refused, Usage, NoMemory, ReadFault, WriteFault}

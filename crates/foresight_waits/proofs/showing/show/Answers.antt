@@ -1,7 +1,7 @@
 use Rattle.std.proofs.Common.{List, ℕ, subst}
 use Rattle.byte_ends.specs.Changes.{change}
 use Rattle.foresight_waits.specs.Endings.{Writes}
-use Rattle.foresight_waits.proofs.ShowLemmas.{shows_nothing, shows_refusal, shows_text}
+use Rattle.foresight_waits.proofs.ShowLemmas.{shows_text}
 use Rattle.foresight_waits.proofs.showing.show.Goals as goal
 
 pub returns-in-Ok : goal.returns-in-Ok
