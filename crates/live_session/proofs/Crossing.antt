@@ -1,5 +1,5 @@
 -- A session that lives may go to another thread: so may the trees of its program.
-use mir.Syntax.{w32}
+use mir.Syntax.{w32, w64}
 use denote.RattleType.{RattleType}
 use denote.Builtin as builtin
 use denote.Hole.{as_row}
@@ -114,6 +114,9 @@ program_send = search (sendable, checked_send, later.the_send, Vec-send, lists.t
 number : IsSend (UInt w32)
 number = search sendable
 
+long_number : IsSend (UInt w64)
+long_number = search sendable
+
 numbers : IsSend (builtin.Array builtin.u32 tt 64)
 numbers = search (sendable, number)
 
@@ -131,12 +134,21 @@ live_send =
           (
             number,
             (
-              as_row_send names_row.the_field names.the_send,
+              number,
               (
-                tables.the_send,
+                as_row_send names_row.the_field names.the_send,
                 (
-                  arguments.the_send,
-                  (scratch.the_send, (as_row_send tickets_row.the_field tickets.the_send, (history.the_send, tt))),
+                  tables.the_send,
+                  (
+                    long_number,
+                    (
+                      long_number,
+                      (
+                        arguments.the_send,
+                        (scratch.the_send, (as_row_send tickets_row.the_field tickets.the_send, (history.the_send, tt))),
+                      ),
+                    ),
+                  ),
                 ),
               ),
             ),

@@ -128,11 +128,11 @@ module _ (P : ℕ → Type 0) (f : ℕ → ℕ) (one : (i j : ℕ) → P i → P
   pub map_moved : (es : List Pair) → NamesOf P es → IsMoved f (container_of Map es) (container_of Map (moved_entries f es))
   map_moved es n = (
     λ k v g.
-    let h : find value_cmp k es ≡ Some v = sym (map.get-from_entries value_cmp_total es k) ∙ g in
-    map.get-from_entries value_cmp_total (moved_entries f es) (moved f k) ∙ found_moved es k v n (found_name es k v n h) h,
+        let h : find value_cmp k es ≡ Some v = sym (map.get-from_entries value_cmp_total es k) ∙ g in
+        map.get-from_entries value_cmp_total (moved_entries f es) (moved f k) ∙ found_moved es k v n (found_name es k v n h) h,
     λ k v g.
-    let b = back es k v (sym (map.get-from_entries value_cmp_total (moved_entries f es) k) ∙ g) in
-    (b.key, b.value, map.get-from_entries value_cmp_total es b.key ∙ b.at, b.key_is, b.value_is),
+        let b = back es k v (sym (map.get-from_entries value_cmp_total (moved_entries f es) k) ∙ g) in
+        (b.key, b.value, map.get-from_entries value_cmp_total es b.key ∙ b.at, b.key_is, b.value_is),
   )
     where
       back : (es : List Pair) (k v : Value) → find value_cmp k (moved_entries f es) ≡ Some v → Back f es k v
@@ -179,8 +179,8 @@ module _ (f : ℕ → ℕ) where
   set_moved es = (
     λ k g. set.contains-from_list value_cmp_total (keys (moved_entries f es)) (moved f k) ∙ member_moved es k (sym (set.contains-from_list value_cmp_total (keys es) k) ∙ g),
     λ k g.
-    let b = member_back es k (sym (set.contains-from_list value_cmp_total (keys (moved_entries f es)) k) ∙ g) in
-    (b.key, set.contains-from_list value_cmp_total (keys es) b.key ∙ b.at, b.key_is),
+        let b = member_back es k (sym (set.contains-from_list value_cmp_total (keys (moved_entries f es)) k) ∙ g) in
+        (b.key, set.contains-from_list value_cmp_total (keys es) b.key ∙ b.at, b.key_is),
   )
 
 -- ---- table by table

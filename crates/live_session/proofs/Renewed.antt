@@ -320,6 +320,7 @@ module _ (v : LiveView) (live : IsLive v) (ps : List Part) (is : held ps ≡ v.t
 
   tables_below : AreBelow v.handler_names (flat_map table_mentions v.file.tables)
   tables_below = (all_first (IsBelow v.handler_names) (flat_map table_mentions v.file.tables) (flat_map handler_mentions v.file.handlers) live.handlers_below).0
+
   dump_same : (generation : ℕ) → dump_of (anew v r generation) ≡ dump_of v
   dump_same generation =
       let tables : map (written_table r.names) (held r.tables.parts.items) ≡ map (written_table v.names) v.tables =

@@ -9,7 +9,7 @@ ghost use Rattle.text_lines.specs.Values.{placed_all, values_of};
 ghost use Rattle.request_files.specs.Requests.{AreKnown};
 ghost use Rattle.live_session.specs.Accepting.{IsAccepted};
 ghost use Rattle.live_session.specs.Entries.{IsAdmitted};
-ghost use Rattle.live_session.specs.Held.{HaveRoomFor, held};
+ghost use Rattle.live_session.specs.Held.{HaveRoomFor, factors_in, held};
 ghost use Rattle.live_session.specs.ArgumentWords.{IsHeld, words_of};
 ghost use Rattle.live_session.specs.Invoking.{AreFine, AreNotRead, CanBeSaid, IsNotGiven};
 ghost use Rattle.live_session.specs.Invoking.{IsNotReceived, invoke_error, row_given};
@@ -158,6 +158,7 @@ pub(crate) fn accept_given(
         names.old by.entry.most_names h arguments.now) }
     ensures same { OnErr result (names.new ≡ names.old) }
     ensures held { held parts.new.items ≡ held parts.old.items }
+    ensures factors { factors_in parts.new.items ≡ factors_in parts.old.items }
     ensures capacity { vec_capacity args.new ≡ vec_capacity args.old }
 {
     let before = names.len();

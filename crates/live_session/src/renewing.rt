@@ -90,12 +90,7 @@ fn mark_parts(flags: &mut Vec<bool>, parts: &[Part])
 }
 
 // Which of so many names are held: the first ones, which are the handlers', and those of tables.
-fn held_names(
-    alloc: Global,
-    count: u32,
-    first: u32,
-    parts: &[Part],
-) -> Result<Vec<bool>, NoMemory>
+fn held_names(alloc: Global, count: u32, first: u32, parts: &[Part]) -> Result<Vec<bool>, NoMemory>
     ensures flags { IfOk result (λ fs. fs.items
         ≡ marked_by_all (marked_first (replicate count false) first) (lists_in parts.now)) }
     ensures apart { IfOk result (λ _. AllByRecursion AreApart (lists_in parts.now)) }
@@ -111,12 +106,7 @@ fn held_names(
 // ---- the names that are kept
 
 // The names whose flags are set, in their order. Of the others no text is looked at.
-fn kept_names(
-    alloc: Global,
-    names: &Names,
-    flags: &[bool],
-    seed: u64,
-) -> Result<Kept, NoMemory>
+fn kept_names(alloc: Global, names: &Names, flags: &[bool], seed: u64) -> Result<Kept, NoMemory>
     requires { length flags.now ≡ length names.now }
     ensures names { IfOk result (λ k. k.names ≡ kept flags.now names.now) }
     ensures places { IfOk result (λ k. (i : ℕ) → i < length names.now
@@ -161,12 +151,7 @@ fn kind(part: &Part) -> TableKind
 
 // A table with the same entries, whose names have the places that the list gives, with room for
 // some more. The last entry enters first.
-fn moved_part(
-    alloc: Global,
-    part: &Part,
-    places: &[u32],
-    seed: u64,
-) -> Result<Part, NoMemory>
+fn moved_part(alloc: Global, part: &Part, places: &[u32], seed: u64) -> Result<Part, NoMemory>
     ensures entered { IfOk result (λ p. container_in p ≡ container_of
         (kind_of (container_in part.now)) (moved_entries (place_in places.now)
         (entries_in part.now))) }

@@ -34,7 +34,7 @@ returns-in-Ok c =
     let idle : ◌≡◌ {A = TicketsView} (record { next = v.tickets.next; tickets = []; acts = idle_tickets v.tickets.next }) c.forget.new.self =
     (λ i. record { next = v.tickets.next; tickets = sym none i; acts = idle_tickets v.tickets.next }) ∙ sym c.forget.ensures.idle in
     let one : suc n ≡ n + 1 = omega arith in
-    let left : n < last_number = omega (arith, c.if-self.false, c.self.ranges.generation.fits) in
+    let left : c.self.inside.generation < last_number = omega arith in
     let w : LiveView = record (anew v r (n + 1)) { tickets = c.forget.new.self } in
     let P : LiveView → Type 0 = λ x. RenewAnswered x w (Ok tt) in
     let Q : LiveView → Type 0 = λ x. IsRenewed v x in
