@@ -201,17 +201,17 @@ def try_counts():
 
 def try_renewal():
     """Names that only requests brought come back."""
-    text = "map m; handler put(k) { put(m, k, 1); reply k; } handler cut(k) { del(m, k); reply k; }\n%%\n"
+    text = "map m; handler store(k) { put(m, k, 1); reply k; } handler cut(k) { del(m, k); reply k; }\n%%\n"
     with foresight.Session(text, most_names=5) as session:
-        session.serve(["put a"])
-        refused(lambda: session.serve(["put b"]), 15, "too many names")
+        session.serve(["store a"])
+        refused(lambda: session.serve(["store b"]), 15, "too many names")
         ticket = session.begin([])
         refused(session.renew, 19, "status 19: a ticket is open")
         session.end(ticket)
         for word in "bcdef":
             session.serve([f"cut {chr(ord(word) - 1)}"])
             session.renew()
-            session.serve([f"put {word}"])
+            session.serve([f"store {word}"])
         assert session.tables() == "%% tables\nm f 1\n", session.tables()
         assert session.counts()["generation"] == 5
 

@@ -415,7 +415,7 @@ static void want_counts(void) {
 
 /* Words that only requests brought go, those that a table holds stay, and the tables are the same. */
 static void want_renewed(void) {
-    static const char some[] = "map m;\nhandler put(k, v) { put(m, k, v); reply k; }\n"
+    static const char some[] = "map m;\nhandler store(k, v) { put(m, k, v); reply k; }\n"
         "handler cut(k) { del(m, k); reply k; }\nhandler see(k) { let v = get(m, k); reply v; }\n%%\n";
     static const struct foresight_operation nothing = { FORESIGHT_GET, 0, { 0, 0, 0 }, { 0, 0, 0 } };
     struct foresight_counts counts;
@@ -426,7 +426,7 @@ static void want_renewed(void) {
     handle session = none;
     WANT(11, foresight_session_renew(&session));
     WANT(0, open_with(&session, some, 10));
-    WANT(0, serve(&session, "put ann bob\nput eve 1\n"));
+    WANT(0, serve(&session, "store ann bob\nstore eve 1\n"));
     /* Its six names and three words: one more has room. */
     WANT(0, serve(&session, "cut eve\nsee x\n"));
     WANT(15, serve(&session, "see y\n"));
