@@ -36,10 +36,8 @@ foresight_where --version > /dev/null || foresight_where --help > /dev/null
 gcc -std=c99 /check.c $(pkg-config --cflags --libs foresight) -o shared
 ldd ./shared | grep -q libforesight
 gcc -std=c99 -static /check.c $(pkg-config --cflags --libs foresight) -o fixed
-for one in shared fixed; do ./$one < /login.handlers | cmp - /dev/stdin <<EOF
-$(foresight check < /login.handlers)
-EOF
-done
+foresight check < /login.handlers > wanted
+for one in shared fixed; do ./$one < /login.handlers > given; cmp given wanted; done
 python3 -c 'import foresight
 s = foresight.Session(open("/etc/foresight/handlers").read() + "%%\n")
 print(s.serve(["book A1 ann", "book A1 bob"]))'
