@@ -108,6 +108,10 @@ void metrics_info(struct bytes *out) {
     for (size_t i = 0; i < RULES_COUNT; i++) {
         bytes_format(out, "refused_%s:%" PRIu64 "\r\n", RULES[i].name, refused[i]);
     }
+    struct held held;
+    tables_counts(&held);
+    bytes_format(out, "# Tables\r\nnames:%" PRIu32 "\r\nmost_names:%" PRIu32 "\r\nrenewals:%" PRIu64
+        "\r\nentries:%" PRIu64 "\r\n", held.names, held.most_names, held.renewals, held.entries);
     bytes_format(out, "# Log\r\nposition:%" PRIu64 "\r\nwaiting:%zu\r\nsnapshot:%" PRIu64 "\r\n",
         serving.position, serving.pending == NULL ? 0 : serving.pending->count, snapshot);
     bytes_format(out, "commits:%" PRIu64 "\r\ncommit_p50_us:%.0f\r\ncommit_p99_us:%.0f\r\n",
@@ -155,6 +159,12 @@ void metrics_prometheus(struct bytes *out) {
     put_one(out, "position", "counter", serving.position);
     put_one(out, "snapshot_position", "gauge", snapshot);
     put_one(out, "waiting", "gauge", serving.pending == NULL ? 0 : serving.pending->count);
+    struct held held;
+    tables_counts(&held);
+    put_one(out, "names", "gauge", held.names);
+    put_one(out, "names_most", "gauge", held.most_names);
+    put_one(out, "name_renewals_total", "counter", held.renewals);
+    put_one(out, "entries", "gauge", held.entries);
     put_one(out, "once_clients", "gauge", once_clients());
     put_one(out, "once_forgotten_total", "counter", once_forgotten());
     put_summary(out, "request_seconds", &requests);

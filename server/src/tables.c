@@ -62,6 +62,18 @@ void tables_open(const struct bytes *text, uint32_t most_names) {
     opened = whole;
 }
 
+void tables_counts(struct held *held) {
+    struct foresight_counts counts;
+    uint32_t size = 0;
+    memset(&counts, 0, sizeof counts);
+    foresight_session_counts(&session, &counts);
+    *held = (struct held){ counts.names, counts.most_names, counts.generation, 0 };
+    for (uint32_t table = 0; table < counts.tables; table++) {
+        foresight_session_size(&session, table, &size);
+        held->entries += size;
+    }
+}
+
 void tables_dump(struct bytes *out) {
     uint8_t why[FORESIGHT_MESSAGE_ROOM];
     struct foresight_answer answer = { 0, 65536, 0 };
@@ -99,14 +111,13 @@ static void text_to_load(const struct bytes *handlers, const struct bytes *dump,
     bytes_text(whole, "%%\n");
 }
 
-/* Opens the session again over its own tables: names that these don't have are given back. Replies
- * and tables don't depend on it. It takes as long as a start. */
-static bool renew(uint32_t most_names) {
+/* Opens the session again over its own tables, with another bound on names. Replies and tables don't
+ * depend on it. It takes as long as a start. */
+static bool reopen(uint32_t most_names) {
     struct bytes dump = { NULL, 0, 0 }, whole = { NULL, 0, 0 };
     char why[FORESIGHT_MESSAGE_ROOM];
     tables_dump(&dump);
     bool can = tables_can_load(&opened, &dump);
-    since = 0;
     if (can) {
         text_to_load(&opened, &dump, &whole);
         if (open_over(&whole, most_names, why) != FORESIGHT_SESSION_FINE
@@ -120,7 +131,7 @@ static bool renew(uint32_t most_names) {
 }
 
 void tables_bound(uint32_t most_names) {
-    renew(most_names);
+    reopen(most_names);
     if (names != most_names) say("names have no bound: these tables can't be opened with one");
 }
 
@@ -148,7 +159,10 @@ void tables_line(const void *line, size_t size, struct outcome *out) {
     serve_line(line, size, out);
     bool full = out->refused && strncmp(out->text, TOO_MANY_NAMES, strlen(TOO_MANY_NAMES)) == 0;
     /* Not so often that those who send new words could keep it busy. */
-    if (full && since >= names / 8 && renew(names)) serve_line(line, size, out);
+    if (full && since >= names / 8) {
+        since = 0;
+        if (foresight_session_renew(&session) == FORESIGHT_SESSION_FINE) serve_line(line, size, out);
+    }
 }
 
 void tables_request(const struct word *words, size_t count, struct outcome *out) {

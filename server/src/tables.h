@@ -31,6 +31,14 @@ void tables_request(const struct word *words, size_t count, struct outcome *out)
 void tables_line(const void *line, size_t size, struct outcome *out);
 /* From now on there are at most so many names, if the tables can be opened with them. */
 void tables_bound(uint32_t most_names);
+/* What the session holds: names, how many there may be, how often those that nobody holds were given
+ * back, and the entries of all tables. */
+struct held {
+    uint32_t names, most_names;
+    uint64_t renewals, entries;
+};
+
+void tables_counts(struct held *held);
 /* What `foresight dump` writes. */
 void tables_dump(struct bytes *out);
 /* Whether a dump can be opened again, and a new session over handlers and a dump. These two are to
