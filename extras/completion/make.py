@@ -38,7 +38,7 @@ OTHERS = {
         "--rules": "print the table of rules",
         "--version": "print the version",
     }),
-    "foresight_waits": ("crates/foresight_waits/src/main.rt", {
+    "foresight_waits": ("crates/foresight_waits/src/ending.rt", {
         "--trace": "count the delays of a trace",
         "--json": "write JSON",
         "--version": "print the version",
