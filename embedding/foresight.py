@@ -6,8 +6,7 @@ proof. Of a proved archive it is made by
 
     cc -shared -o libforesight.so -Wl,--whole-archive libforesight.a -Wl,--no-whole-archive
 
-`serve` takes many lines a call, so that the cost of a call from Python is paid once for all of them.
-An object has a lock of its own, so several threads may use it.
+`serve` takes many lines a call, whose cost is paid once. An object has a lock of its own.
 """
 import ctypes as c
 import os
@@ -41,8 +40,7 @@ STATUSES = {
 
 
 class ForesightError(Exception):
-    """A call ended with this status. Where a text was refused, `explanation` tells in plain words
-    where and why, with advice; else it is None."""
+    """A call ended with this status; of a refused text `explanation` tells in plain words."""
 
     def __init__(self, status, why):
         super().__init__(why)
@@ -276,17 +274,15 @@ class Session(_Kept):
         self._do(_library.foresight_session_end, c.c_uint64(ticket))
 
     def counts(self):
-        """What the session holds: its `names` and the `most_names` that there may be, its `tables`,
-        the tickets that have `begun`, those that are `open`, the `oldest` of these or None, and the
-        `generation`: how often the names were renewed."""
+        """What the session holds, by the fields of `struct foresight_counts`; `oldest` is None if no
+        ticket is open."""
         counts = _Counts()
         self._do(_library.foresight_session_counts, c.byref(counts))
         held = {name: getattr(counts, name) for name, _ in _Counts._fields_}
         return held if held["open"] else {**held, "oldest": None}
 
     def renew(self):
-        """Lets the names go that neither the handlers nor a table holds. The numbers of the others
-        change, so names that `name` and `call` gave are to be asked for anew."""
+        """Lets names go that neither handlers nor tables hold. Ask for the others' numbers anew."""
         self._do(_library.foresight_session_renew)
 
     def size(self, table):

@@ -51,6 +51,8 @@ live_c() {
   compile sessions embedding/tests/sessions.c "${heap[@]}"
   compile tickets embedding/tests/tickets.c "${heap[@]}"
   timeout 60 "$work/sessions" || live_wrong "embedding/tests/sessions.c"
+  compile held embedding/tests/held.c "${heap[@]}"
+  timeout 60 "$work/held" || live_wrong "embedding/tests/held.c"
   timeout 60 "$work/tickets" || live_wrong "embedding/tests/tickets.c"
   compile server "${threads[@]}" embedding/server.c
   compile bank "${threads[@]}" embedding/bank.c
